@@ -1,0 +1,156 @@
+-- The tree rules against the plain list of entries.
+use mathlib.Core.Path.{_≡_, refl, ap, sym, subst, _∙_}
+use Prim.Native.Nat.{ℕ, zero, suc, _+_, _*_, _<_, compare, Ordering, Ordering·lt, Ordering·eq, Ordering·gt}
+use mathlib.Core.Bool.{Bool, true, false}
+use mathlib.Core.Option.{Option, none, some}
+use mathlib.Core.List.{List, [], _∷_, _++_, append-assoc, append-nil}
+use lib.Dec.{ltb, leb, eqb}
+use native.Mathlib.Omega.{arith}
+use Rattle.model.specs.Tree.{Tree, leaf, node, Entry, size, lookup, entries, Cut, cut, put, find, without, AllBelow, AllAbove, Ordered, Sorted}
+use Rattle.model.specs.Supply.{Supply, Make, make, given, next, taken}
+use Rattle.model.specs.Rules.{weight, twice, rotateLeft, rotateRight, balanced, insertBy, insert, removeMin, withoutKey, removePresent, remove, join, split, unionBy, union, rest, difference}
+use Rattle.model.proofs.Compare.{cmp-lt, cmp-eq, cmp-gt, lt-cmp, eq-cmp, gt-cmp}
+
+-- a way to make a node that keeps what the tree holds
+abbrev pub Keeps : (ℕ → ℕ → Tree → Tree → Make Tree) → Type 0
+Keeps mk = (k v : ℕ) (l r : Tree) (s : Supply) → entries (mk k v l r s .0) ≡ entries l ++ (k, v) ∷ entries r
+
+pub make-keeps : Keeps make
+unfolding entries
+make-keeps k v l r s = refl
+
+twice-keeps : (k v : ℕ) (l m : Tree) (h w : ℕ) (r : Tree) (s : Supply) → entries (twice k v l m h w r s .0) ≡ entries l ++ (k, v) ∷ (entries m ++ (h, w) ∷ entries r)
+unfolding twice entries
+twice-keeps k v l leaf h w r s = simp append-assoc
+twice-keeps k v l (node i g u x y) h w r s = simp append-assoc
+
+rotateLeft-keeps : Keeps rotateLeft
+unfolding rotateLeft entries
+rotateLeft-keeps k v l leaf s = refl
+rotateLeft-keeps k v l (node i h w rl rr) s = go (ltb (weight rl) (2 * weight rr)) refl
+  where
+    go : (b : Bool) → ltb (weight rl) (2 * weight rr) ≡ b → entries (rotateLeft k v l (node i h w rl rr) s .0) ≡ entries l ++ (k, v) ∷ (entries rl ++ (h, w) ∷ entries rr)
+    go true e = rw e (simp append-assoc)
+    go false e = rw e (twice-keeps k v l rl h w rr (given i s))
+
+rotateRight-keeps : Keeps rotateRight
+unfolding rotateRight entries
+rotateRight-keeps k v leaf r s = refl
+rotateRight-keeps k v (node i h w ll lr) r s = go (ltb (weight lr) (2 * weight ll)) refl
+  where
+    go : (b : Bool) → ltb (weight lr) (2 * weight ll) ≡ b → entries (rotateRight k v (node i h w ll lr) r s .0) ≡ (entries ll ++ (h, w) ∷ entries lr) ++ (k, v) ∷ entries r
+    go true e = rw e (simp append-assoc)
+    go false e = rw e (twice-keeps h w ll lr k v r (given i s) ∙ sym (append-assoc (entries ll) ((h, w) ∷ entries lr) ((k, v) ∷ entries r)))
+
+pub balanced-keeps : Keeps balanced
+unfolding balanced
+balanced-keeps k v l r s = few (ltb (size l + size r) 2) refl
+  where
+    Goal : Type 0
+    Goal = entries (balanced k v l r s .0) ≡ entries l ++ (k, v) ∷ entries r
+
+    left-heavy : (b : Bool) → ltb (size l + size r) 2 ≡ false → ltb (3 * weight l) (weight r) ≡ false → ltb (3 * weight r) (weight l) ≡ b → Goal
+    left-heavy true e₁ e₂ e = rw (e₁, balanced) (rw e₂ (rw e (rotateRight-keeps k v l r s)))
+    left-heavy false e₁ e₂ e = rw (e₁, balanced) (rw e₂ (rw e (make-keeps k v l r s)))
+
+    right-heavy : (b : Bool) → ltb (size l + size r) 2 ≡ false → ltb (3 * weight l) (weight r) ≡ b → Goal
+    right-heavy true e₁ e = rw (e₁, balanced) (rw e (rotateLeft-keeps k v l r s))
+    right-heavy false e₁ e = left-heavy (ltb (3 * weight r) (weight l)) e₁ e refl
+
+    few : (b : Bool) → ltb (size l + size r) 2 ≡ b → Goal
+    few true e = rw (e, balanced) (make-keeps k v l r s)
+    few false e = right-heavy (ltb (3 * weight l) (weight r)) e refl
+
+pub join-keeps : Keeps join
+unfolding join entries
+join-keeps k v leaf leaf s = balanced-keeps k v leaf leaf s
+join-keeps k v leaf (node j h w rl rr) s = balanced-keeps h w (join k v leaf rl (given j s) .0) rr (join k v leaf rl (given j s) .1) ∙ rw (join-keeps k v leaf rl (given j s)) refl
+join-keeps k v (node i h w ll lr) leaf s = balanced-keeps h w ll (join k v lr leaf (given i s) .0) (join k v lr leaf (given i s) .1) ∙ rw (join-keeps k v lr leaf (given i s)) (simp append-assoc)
+join-keeps k v (node i h w ll lr) (node j g u rl rr) s = right-larger (ltb (3 * size L) (size R)) refl (join-keeps k v L rl (given j s)) (join-keeps k v lr R (given i s))
+  where
+    L : Tree
+    L = node i h w ll lr
+
+    R : Tree
+    R = node j g u rl rr
+
+    Goal : Type 0
+    Goal = entries (join k v L R s .0) ≡ entries L ++ (k, v) ∷ entries R
+
+    left-larger : (b : Bool) → ltb (3 * size L) (size R) ≡ false → ltb (3 * size R) (size L) ≡ b → entries (join k v lr R (given i s) .0) ≡ entries lr ++ (k, v) ∷ entries R → Goal
+    left-larger true e₁ e ih = rw (e₁, entries) (rw (e, entries) (balanced-keeps h w ll (join k v lr R (given i s) .0) (join k v lr R (given i s) .1) ∙ rw ih (simp append-assoc)))
+    left-larger false e₁ e ih = rw (e₁, entries) (rw (e, entries) (balanced-keeps k v L R s))
+
+    right-larger : (b : Bool) → ltb (3 * size L) (size R) ≡ b → entries (join k v L rl (given j s) .0) ≡ entries L ++ (k, v) ∷ entries rl → entries (join k v lr R (given i s) .0) ≡ entries lr ++ (k, v) ∷ entries R → Goal
+    right-larger true e ihr ihl = rw (e, entries) (balanced-keeps g u (join k v L rl (given j s) .0) rr (join k v L rl (given j s) .1) ∙ rw ihr (simp append-assoc))
+    right-larger false e ihr ihl = left-larger (ltb (3 * size R) (size L)) e refl ihl
+
+-- Lists
+
+allBelow-trans : (j k : ℕ) (xs : List Entry) → j < k → AllBelow j xs → AllBelow k xs
+unfolding AllBelow
+allBelow-trans j k [] lt b = tt
+allBelow-trans j k (x ∷ xs) lt b = (omega arith, allBelow-trans j k xs lt (b .1))
+
+-- a list cut at k, in front of which and behind which other entries stand
+abbrev inFront : List Entry → Cut → Cut
+inFront xs c = record { before = xs ++ c .before; found = c .found; after = c .after }
+
+abbrev behind : Cut → List Entry → Cut
+behind c ys = record { before = c .before; found = c .found; after = c .after ++ ys }
+
+cut-past : (xs ys : List Entry) (k : ℕ) → AllBelow k xs → cut (xs ++ ys) k ≡ inFront xs (cut ys k)
+unfolding cut AllBelow
+cut-past [] ys k b = refl
+cut-past (x ∷ xs) ys k b = rw (gt-cmp k (x .0) (b .0), cut) (ap (inFront (x ∷ [])) (cut-past xs ys k (b .1)))
+
+pub cut-less : (xs ys : List Entry) (h w k : ℕ) → compare k h ≡ Ordering·lt → cut (xs ++ (h, w) ∷ ys) k ≡ behind (cut xs k) ((h, w) ∷ ys)
+unfolding cut
+cut-less [] ys h w k lt = rw (lt, cut)
+cut-less (x ∷ xs) ys h w k lt = go (compare k (x .0)) refl (cut-less xs ys h w k lt)
+  where
+    go : (o : Ordering) → compare k (x .0) ≡ o → cut (xs ++ (h, w) ∷ ys) k ≡ behind (cut xs k) ((h, w) ∷ ys) → cut (x ∷ xs ++ (h, w) ∷ ys) k ≡ behind (cut (x ∷ xs) k) ((h, w) ∷ ys)
+    go Ordering·lt e ih = rw (e, cut)
+    go Ordering·eq e ih = rw (e, cut)
+    go Ordering·gt e ih = rw (e, cut) (ap (inFront (x ∷ [])) ih)
+
+pub cut-same : (xs ys : List Entry) (h w k : ℕ) → compare k h ≡ Ordering·eq → AllBelow h xs → cut (xs ++ (h, w) ∷ ys) k ≡ record { before = xs; found = some w; after = ys }
+unfolding cut
+cut-same xs ys h w k e b = cut-past xs ((h, w) ∷ ys) k (rw (cmp-eq k h e) b) ∙ rw (e, cut) (rw append-nil)
+
+pub cut-more : (xs ys : List Entry) (h w k : ℕ) → compare k h ≡ Ordering·gt → AllBelow h xs → cut (xs ++ (h, w) ∷ ys) k ≡ inFront (xs ++ (h, w) ∷ []) (cut ys k)
+unfolding cut
+cut-more xs ys h w k e b = cut-past xs ((h, w) ∷ ys) k (allBelow-trans h k xs (cmp-gt k h e) b) ∙ rw (e, cut) (rw (append-assoc xs ((h, w) ∷ []) (cut ys k .before)))
+
+-- Lookup
+
+pub lookup-entries : (t : Tree) (k : ℕ) → Ordered t → lookup t k ≡ find (entries t) k
+unfolding lookup entries Ordered cut
+lookup-entries leaf k o = refl
+lookup-entries (node i h w l r) k o = go (compare k h) refl (lookup-entries l k (o .2)) (lookup-entries r k (o .3))
+  where
+    go : (c : Ordering) → compare k h ≡ c → lookup l k ≡ find (entries l) k → lookup r k ≡ find (entries r) k → lookup (node i h w l r) k ≡ find (entries (node i h w l r)) k
+    go Ordering·lt e ihl ihr = rw (e, lookup) (ihl ∙ sym (ap (λ c. c .found) (cut-less (entries l) (entries r) h w k e)))
+    go Ordering·eq e ihl ihr = rw (e, lookup) (sym (ap (λ c. c .found) (cut-same (entries l) (entries r) h w k e (o .0))))
+    go Ordering·gt e ihl ihr = rw (e, lookup) (ihr ∙ sym (ap (λ c. c .found) (cut-more (entries l) (entries r) h w k e (o .0))))
+
+-- Insert
+
+insertBy-entries : (mk : ℕ → ℕ → Tree → Tree → Make Tree) → Keeps mk → (t : Tree) (k v : ℕ) (s : Supply) → Ordered t → entries (insertBy mk t k v s .0) ≡ put (entries t) k v
+unfolding insertBy entries cut Ordered
+insertBy-entries mk keeps leaf k v s o = refl
+insertBy-entries mk keeps (node i h w l r) k v s o = go (compare k h) refl (insertBy-entries mk keeps l k v (given i s) (o .2)) (insertBy-entries mk keeps r k v (given i s) (o .3))
+  where
+    go : (c : Ordering) → compare k h ≡ c → entries (insertBy mk l k v (given i s) .0) ≡ put (entries l) k v → entries (insertBy mk r k v (given i s) .0) ≡ put (entries r) k v
+        → entries (insertBy mk (node i h w l r) k v s .0) ≡ put (entries l ++ (h, w) ∷ entries r) k v
+    go Ordering·lt e ihl ihr = rw e (keeps h w (insertBy mk l k v (given i s) .0) r (insertBy mk l k v (given i s) .1) ∙ rw (ihl, cut-less (entries l) (entries r) h w k e) (simp append-assoc))
+    go Ordering·eq e ihl ihr = rw e (keeps k v l r (given i s) ∙ rw (cut-same (entries l) (entries r) h w k e (o .0)) refl)
+    go Ordering·gt e ihl ihr = rw e (keeps h w l (insertBy mk r k v (given i s) .0) (insertBy mk r k v (given i s) .1) ∙ rw (ihr, cut-more (entries l) (entries r) h w k e (o .0)) (simp append-assoc))
+
+pub insert-entries : (t : Tree) (k v : ℕ) (s : Supply) → Ordered t → entries (insert t k v s .0) ≡ put (entries t) k v
+unfolding insert
+insert-entries t k v s o = go (lookup t k) refl
+  where
+    go : (f : Option ℕ) → lookup t k ≡ f → entries (insert t k v s .0) ≡ put (entries t) k v
+    go none e = rw (e, insert) (insertBy-entries balanced balanced-keeps t k v s o)
+    go (some w) e = rw (e, insert) (insertBy-entries make make-keeps t k v s o)

@@ -1,0 +1,156 @@
+-- What every make keeps, all the rules keep.
+use mathlib.Core.Path.{_≡_, refl, ap, sym, subst, _∙_}
+use Prim.Native.Nat.{ℕ, zero, suc, _+_, _*_, _≤_, _<_, compare, Ordering, Ordering·lt, Ordering·eq, Ordering·gt}
+use mathlib.Core.Bool.{Bool, true, false, _&&_}
+use mathlib.Core.Option.{Option, none, some}
+use lib.Dec.{ltb, leb, eqb}
+use Rattle.model.specs.Tree.{Tree, leaf, node, size, lookup}
+use Rattle.model.specs.Supply.{Supply, Make, make, done, apart, _>>=_, _>>_, given, next, taken}
+use Rattle.model.specs.Rules.{weight, twice, rotateLeft, rotateRight, balanced, insertBy, insert, Least, removeMin, withoutKey, removePresent, remove, join, Parts, split, mergedLeft, mergedRight, unionBy, union, rest, kept, difference}
+
+-- P of trees, A of supplies
+module _ (P : Tree → Type 0) (A : Supply → Type 0) (P-leaf : P leaf)
+    (P-left : (i k v : ℕ) (l r : Tree) → P (node i k v l r) → P l) (P-right : (i k v : ℕ) (l r : Tree) → P (node i k v l r) → P r)
+    (P-make : (k v : ℕ) (l r : Tree) (s : Supply) → P l → P r → A s → P (node (next s) k v l r)) (A-taken : (s : Supply) → A s → A (taken s)) (A-given : (i : ℕ) (s : Supply) → A s → A (given i s)) where
+  abbrev pub Ok : {X : Type 0} → (X → Type 0) → Make X → Type 0
+  Ok R m = (s : Supply) → A s → R (m s .0) × A (m s .1)
+
+  done-ok : {X : Type 0} (R : X → Type 0) (x : X) → R x → Ok R (done x)
+  done-ok R x p = λ s a. (p, a)
+
+  bind-ok : {X Y : Type 0} (R : X → Type 0) (S : Y → Type 0) (m : Make X) (f : X → Make Y) → Ok R m → ((x : X) → R x → Ok S (f x)) → Ok S (m >>= f)
+  bind-ok R S m f o g = λ s a. let r = o s a in g (m s .0) (r .0) (m s .1) (r .1)
+
+  apart-ok : {Y : Type 0} (S : Y → Type 0) (i : ℕ) (m : Make Y) → Ok S m → Ok S (apart i >> m)
+  apart-ok S i m o = λ s a. o (given i s) (A-given i s a)
+
+  if-ok : {Y : Type 0} (S : Y → Type 0) (b : Bool) (m n : Make Y) → Ok S m → Ok S n → Ok S (elim b [ true ↦ m | false ↦ n ])
+  if-ok S true m n o p = o
+  if-ok S false m n o p = p
+
+  cmp-ok : {Y : Type 0} (S : Y → Type 0) (c : Ordering) (m n k : Make Y) → Ok S m → Ok S n → Ok S k → Ok S (elim c [ Ordering·lt ↦ m | Ordering·eq ↦ n | Ordering·gt ↦ k ])
+  cmp-ok S Ordering·lt m n k o p q = o
+  cmp-ok S Ordering·eq m n k o p q = p
+  cmp-ok S Ordering·gt m n k o p q = q
+
+  abbrev pub Keep : (ℕ → ℕ → Tree → Tree → Make Tree) → Type 0
+  Keep mk = (k v : ℕ) (l r : Tree) → P l → P r → Ok P (mk k v l r)
+
+  pub make-ok : Keep make
+  make-ok k v l r p q = λ s a. (P-make k v l r s p q a, A-taken s a)
+
+  two-ok : (k v : ℕ) (l r : Tree) (h w : ℕ) (t : Tree) → P l → P r → P t → Ok P (make k v l r >>= λ a. make h w a t)
+  two-ok k v l r h w t p q o = bind-ok P P (make k v l r) (λ a. make h w a t) (make-ok k v l r p q) (λ a pa. make-ok h w a t pa o)
+
+  two-ok′ : (k v : ℕ) (l r : Tree) (h w : ℕ) (t : Tree) → P l → P r → P t → Ok P (make k v l r >>= λ a. make h w t a)
+  two-ok′ k v l r h w t p q o = bind-ok P P (make k v l r) (λ a. make h w t a) (make-ok k v l r p q) (λ a pa. make-ok h w t a o pa)
+
+  three-ok : (k v : ℕ) (l x : Tree) (h w : ℕ) (y r : Tree) (g u : ℕ) → P l → P x → P y → P r → Ok P (make k v l x >>= λ a. make h w y r >>= λ b. make g u a b)
+  three-ok k v l x h w y r g u pl px py pr =
+      bind-ok P P (make k v l x) (λ a. make h w y r >>= λ b. make g u a b) (make-ok k v l x pl px) (λ a pa.
+      bind-ok P P (make h w y r) (λ b. make g u a b) (make-ok h w y r py pr) (λ b pb. make-ok g u a b pa pb))
+
+  twice-ok : (k v : ℕ) (l rl : Tree) (h w : ℕ) (rr : Tree) → P l → P rl → P rr → Ok P (twice k v l rl h w rr)
+  unfolding twice
+  twice-ok k v l leaf h w rr pl prl prr = two-ok k v l leaf h w rr pl prl prr
+  twice-ok k v l (node i g u x y) h w rr pl prl prr = apart-ok P i _ (three-ok k v l x h w y rr g u pl (P-left i g u x y prl) (P-right i g u x y prl) prr)
+
+  rotateLeft-ok : Keep rotateLeft
+  unfolding rotateLeft
+  rotateLeft-ok k v l leaf pl pr = make-ok k v l leaf pl pr
+  rotateLeft-ok k v l (node i h w rl rr) pl pr = apart-ok P i _ (if-ok P (ltb (weight rl) (2 * weight rr)) _ _
+      (two-ok k v l rl h w rr pl (P-left i h w rl rr pr) (P-right i h w rl rr pr)) (twice-ok k v l rl h w rr pl (P-left i h w rl rr pr) (P-right i h w rl rr pr)))
+
+  rotateRight-ok : Keep rotateRight
+  unfolding rotateRight
+  rotateRight-ok k v leaf r pl pr = make-ok k v leaf r pl pr
+  rotateRight-ok k v (node i h w ll lr) r pl pr = apart-ok P i _ (if-ok P (ltb (weight lr) (2 * weight ll)) _ _
+      (two-ok′ k v lr r h w ll (P-right i h w ll lr pl) pr (P-left i h w ll lr pl)) (twice-ok h w ll lr k v r (P-left i h w ll lr pl) (P-right i h w ll lr pl) pr))
+
+  pub balanced-ok : Keep balanced
+  unfolding balanced
+  balanced-ok k v l r pl pr = if-ok P (ltb (size l + size r) 2) _ _ (make-ok k v l r pl pr)
+      (if-ok P (ltb (3 * weight l) (weight r)) _ _ (rotateLeft-ok k v l r pl pr)
+      (if-ok P (ltb (3 * weight r) (weight l)) _ _ (rotateRight-ok k v l r pl pr) (make-ok k v l r pl pr)))
+
+  pub join-ok : Keep join
+  unfolding join
+  join-ok k v leaf leaf pl pr = balanced-ok k v leaf leaf pl pr
+  join-ok k v leaf (node j h w rl rr) pl pr = apart-ok P j _ (bind-ok P P (join k v leaf rl) (λ l′. balanced h w l′ rr) (join-ok k v leaf rl pl (P-left j h w rl rr pr)) (λ l′ p. balanced-ok h w l′ rr p (P-right j h w rl rr pr)))
+  join-ok k v (node i h w ll lr) leaf pl pr = apart-ok P i _ (bind-ok P P (join k v lr leaf) (λ r′. balanced h w ll r′) (join-ok k v lr leaf (P-right i h w ll lr pl) pr) (λ r′ p. balanced-ok h w ll r′ (P-left i h w ll lr pl) p))
+  join-ok k v (node i h w ll lr) (node j g u rl rr) pl pr =
+      if-ok P (ltb (3 * size (node i h w ll lr)) (size (node j g u rl rr))) _ _
+      (apart-ok P j _ (bind-ok P P (join k v (node i h w ll lr) rl) (λ l′. balanced g u l′ rr) (join-ok k v (node i h w ll lr) rl pl (P-left j g u rl rr pr)) (λ l′ p. balanced-ok g u l′ rr p (P-right j g u rl rr pr))))
+      (if-ok P (ltb (3 * size (node j g u rl rr)) (size (node i h w ll lr))) _ _
+      (apart-ok P i _ (bind-ok P P (join k v lr (node j g u rl rr)) (λ r′. balanced h w ll r′) (join-ok k v lr (node j g u rl rr) (P-right i h w ll lr pl) pr) (λ r′ p. balanced-ok h w ll r′ (P-left i h w ll lr pl) p)))
+      (balanced-ok k v (node i h w ll lr) (node j g u rl rr) pl pr))
+
+  abbrev Both : Parts → Type 0
+  Both p = P (p .left) × P (p .right)
+
+  pub split-ok : (t : Tree) (k : ℕ) → P t → Ok Both (split t k)
+  unfolding split
+  split-ok leaf k p s a = ((P-leaf, P-leaf), a)
+  split-ok (node i h w l r) k p s a = go (compare k h) refl (split-ok l k pl (given i s) (A-given i s a)) (split-ok r k pr (given i s) (A-given i s a))
+    where
+      pl : P l
+      pl = P-left i h w l r p
+
+      pr : P r
+      pr = P-right i h w l r p
+
+      go : (c : Ordering) → compare k h ≡ c → Both (split l k (given i s) .0) × A (split l k (given i s) .1) → Both (split r k (given i s) .0) × A (split r k (given i s) .1) → Both (split (node i h w l r) k s .0) × A (split (node i h w l r) k s .1)
+      go Ordering·lt e x y =
+          let q = split l k (given i s) in
+          let j = join-ok h w (q .0 .right) r (x .0 .1) pr (q .1) (x .1) in
+          rw (e, split) ((x .0 .0, j .0), j .1)
+      go Ordering·eq e x y = rw (e, split) ((pl, pr), A-given i s a)
+      go Ordering·gt e x y =
+          let q = split r k (given i s) in
+          let j = join-ok h w l (q .0 .left) pl (y .0 .0) (q .1) (y .1) in
+          rw (e, split) ((j .0, y .0 .1), j .1)
+
+  pub removeMin-ok : (k v : ℕ) (l r : Tree) → P l → P r → (s : Supply) → A s → P (removeMin k v l r s .0 .rest) × A (removeMin k v l r s .1)
+  unfolding removeMin
+  removeMin-ok k v leaf r pl pr s a = (pr, a)
+  removeMin-ok k v (node j h w ll lr) r pl pr s a =
+      let m = removeMin-ok h w ll lr (P-left j h w ll lr pl) (P-right j h w ll lr pl) (given j s) (A-given j s a) in
+      let q = removeMin h w ll lr (given j s) in
+      balanced-ok k v (q .0 .rest) r (m .0) pr (q .1) (m .1)
+
+  pub withoutKey-ok : (mk : ℕ → ℕ → Tree → Tree → Make Tree) → Keep mk → (l r : Tree) → P l → P r → Ok P (withoutKey mk l r)
+  unfolding withoutKey
+  withoutKey-ok mk o leaf r pl pr s a = (pr, a)
+  withoutKey-ok mk o (node i h w ll lr) leaf pl pr s a = (pl, a)
+  withoutKey-ok mk o (node i h w ll lr) (node j g u rl rr) pl pr s a =
+      let m = removeMin-ok g u rl rr (P-left j g u rl rr pr) (P-right j g u rl rr pr) (given j s) (A-given j s a) in
+      let q = removeMin g u rl rr (given j s) in
+      o (q .0 .key) (q .0 .value) (node i h w ll lr) (q .0 .rest) pl (m .0) (q .1) (m .1)
+
+  rest-ok : (a : Tree) (h : ℕ) (o : Option ℕ) (b : Tree) → P a → P b → Ok P (rest a h o b)
+  unfolding rest
+  rest-ok a h (some w) b pa pb = join-ok h w a b pa pb
+  rest-ok a h none b pa pb = withoutKey-ok join join-ok a b pa pb
+
+  pub difference-ok : (diff : ℕ → ℕ → Option ℕ) (cancel : Bool) (l r : Tree) → P l → P r → Ok P (difference diff cancel l r)
+  unfolding difference
+  difference-ok diff cancel leaf r pl pr = λ s a. (P-leaf, a)
+  difference-ok diff cancel (node i h w ll lr) leaf pl pr = λ s a. (pl, a)
+  difference-ok diff cancel (node i h w ll lr) (node j g u rl rr) pl pr = if-ok P (cancel && eqb i j) _ _ (done-ok P leaf P-leaf) (λ s a.
+      let p = split (node j g u rl rr) h (given i s) in
+      let q = split-ok (node j g u rl rr) h pr (given i s) (A-given i s a) in
+      let x = difference diff cancel ll (p .0 .left) (p .1) in
+      let y = difference-ok diff cancel ll (p .0 .left) (P-left i h w ll lr pl) (q .0 .0) (p .1) (q .1) in
+      let x′ = difference diff cancel lr (p .0 .right) (x .1) in
+      let y′ = difference-ok diff cancel lr (p .0 .right) (P-right i h w ll lr pl) (q .0 .1) (x .1) (y .1) in
+      rest-ok (x .0) h (kept diff w (p .0 .found)) (x′ .0) (y .0) (y′ .0) (x′ .1) (y′ .1))
+
+  pub insertBy-ok : (mk : ℕ → ℕ → Tree → Tree → Make Tree) → Keep mk → (t : Tree) (k v : ℕ) → P t → Ok P (insertBy mk t k v)
+  unfolding insertBy
+  insertBy-ok mk q leaf k v p s a = make-ok k v leaf leaf P-leaf P-leaf s a
+  insertBy-ok mk q (node i h w l r) k v p s a = go (compare k h) refl (insertBy-ok mk q l k v (P-left i h w l r p) (given i s) (A-given i s a)) (insertBy-ok mk q r k v (P-right i h w l r p) (given i s) (A-given i s a))
+    where
+      go : (c : Ordering) → compare k h ≡ c → P (insertBy mk l k v (given i s) .0) × A (insertBy mk l k v (given i s) .1) → P (insertBy mk r k v (given i s) .0) × A (insertBy mk r k v (given i s) .1) → P (insertBy mk (node i h w l r) k v s .0) × A (insertBy mk (node i h w l r) k v s .1)
+      go Ordering·lt e x y = rw (e, insertBy) (q h w (insertBy mk l k v (given i s) .0) r (x .0) (P-right i h w l r p) (insertBy mk l k v (given i s) .1) (x .1))
+      go Ordering·eq e x y = rw (e, insertBy) (q k v l r (P-left i h w l r p) (P-right i h w l r p) (given i s) (A-given i s a))
+      go Ordering·gt e x y = rw (e, insertBy) (q h w l (insertBy mk r k v (given i s) .0) (P-left i h w l r p) (y .0) (insertBy mk r k v (given i s) .1) (y .1))

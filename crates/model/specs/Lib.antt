@@ -1,0 +1,13 @@
+pub mod Tree
+pub mod Supply
+pub mod Rules
+pub mod Listing
+pub mod Delta
+pub mod Heap
+pub mod Block
+pub mod Numbers
+pub mod Frame
+pub mod Inbox
+pub mod Replica
+pub mod Moves
+pub mod Calls

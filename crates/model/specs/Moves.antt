@@ -1,0 +1,157 @@
+-- How one step of a call changes a heap: what the contracts of the inner functions say.
+use mathlib.Core.Path.{_≡_}
+use mathlib.Core.Logic.{_≢_}
+use Prim.Native.Nat.{ℕ, zero, suc, _+_, _≤_, _<_}
+use mathlib.Core.Bool.{Bool, true, false}
+use mathlib.Core.List.{List}
+use lib.ListN.{drop}
+use Rattle.model.specs.Supply.{Supply, Make, short}
+use Rattle.model.specs.Block.{heap, word, room, nodeWord, occupiedAt, Shaped}
+use Rattle.model.specs.Heap.{Heap, Occupied, Named, sizeAt, tree, hit, Linked, Blank, Counted, free}
+
+-- g is h but for node n and for counts
+pub record Except (h g : Heap) (n : ℕ) : Type 0 where
+  pub room : g .room ≡ h .room
+  pub root : (v : ℕ) → v < 16 → g .root v ≡ h .root v
+  pub occupied : (m : ℕ) → m ≢ n → g .occupied m ≡ h .occupied m
+  pub key : (m : ℕ) → m ≢ n → g .key m ≡ h .key m
+  pub value : (m : ℕ) → m ≢ n → g .value m ≡ h .value m
+  pub left : (m : ℕ) → m ≢ n → g .left m ≡ h .left m
+  pub right : (m : ℕ) → m ≢ n → g .right m ≡ h .right m
+  pub size : (m : ℕ) → m ≢ n → g .size m ≡ h .size m
+
+pub record Made (h g : Heap) (n l r : ℕ) : Type 0 where
+  pub free : h .occupied n ≡ false
+  pub low : 1 ≤ n
+  pub high : n ≤ h .room
+  pub except : Except h g n
+  pub occupied : Occupied g n
+  pub left : g .left n ≡ l
+  pub right : g .right n ≡ r
+  pub size : g .size n ≡ suc (sizeAt h l + sizeAt h r)
+  pub count : g .count n ≡ 0
+  pub counts : (m : ℕ) → Occupied h m → g .count m ≡ h .count m + (hit l m + hit r m)
+  pub blanks : (m : ℕ) → h .occupied m ≡ false → m ≢ n → g .count m ≡ h .count m
+
+pub record Emptied (h g : Heap) (n : ℕ) : Type 0 where
+  pub was : Occupied h n
+  pub except : Except h g n
+  pub free : g .occupied n ≡ false
+  pub blank : Blank g n
+  pub counts : (m : ℕ) → m ≢ n → g .count m ≡ h .count m
+
+-- g is h but for roots and counts
+pub record Same (h g : Heap) : Type 0 where
+  pub room : g .room ≡ h .room
+  pub occupied : (m : ℕ) → g .occupied m ≡ h .occupied m
+  pub key : (m : ℕ) → g .key m ≡ h .key m
+  pub value : (m : ℕ) → g .value m ≡ h .value m
+  pub left : (m : ℕ) → g .left m ≡ h .left m
+  pub right : (m : ℕ) → g .right m ≡ h .right m
+  pub size : (m : ℕ) → g .size m ≡ h .size m
+
+pub record Rooted (h g : Heap) (v n : ℕ) : Type 0 where
+  pub same : Same h g
+  pub there : v < 16
+  pub here : g .root v ≡ n
+  pub others : (w : ℕ) → w < 16 → w ≢ v → g .root w ≡ h .root w
+  pub counts : (m : ℕ) → g .count m ≡ h .count m
+
+pub record Lowered (h g : Heap) (n : ℕ) : Type 0 where
+  pub same : Same h g
+  pub root : (v : ℕ) → v < 16 → g .root v ≡ h .root v
+  pub was : Occupied h n
+  pub here : h .count n ≡ g .count n + 1
+  pub others : (m : ℕ) → m ≢ n → g .count m ≡ h .count m
+
+pub record Gave (h g : Heap) : Type 0 where
+  pub linked : Linked g
+  pub room : g .room ≡ h .room
+  pub root : (v : ℕ) → v < 16 → g .root v ≡ h .root v
+  pub fewer : (m : ℕ) → Occupied g m → Occupied h m
+  pub trees : (m : ℕ) → Named g m → tree g m ≡ tree h m
+  pub positive : (m : ℕ) → Occupied g m → 1 ≤ h .count m → 1 ≤ g .count m
+
+-- one reference to n is owed beyond the roots and links
+pub record Owed (h : Heap) (n : ℕ) : Type 0 where
+  pub named : Named h n
+  pub extra : ℕ → ℕ
+  pub counts : Counted h (λ x. extra x + hit n x)
+
+-- it has been given up: whatever else was owed still is, and what is owed stands
+pub record Paid (h g : Heap) (n : ℕ) : Type 0 where
+  pub gave : Gave h g
+  pub counts : (extra : ℕ → ℕ) → Counted h (λ x. extra x + hit n x) → Counted g extra
+  pub stays : (extra : ℕ → ℕ) → Counted h (λ x. extra x + hit n x) → (x : ℕ) → Occupied h x → 1 ≤ extra x → Occupied g x
+
+-- nothing names n: its room is given up, and with it a reference to each child
+pub record Freed (h g : Heap) (n : ℕ) : Type 0 where
+  pub free : ¬ Occupied g n
+  pub gave : Gave h g
+  pub counts : (extra : ℕ → ℕ) → Counted h extra → Counted g extra
+  pub stays : (extra : ℕ → ℕ) → Counted h extra → (x : ℕ) → Occupied h x → 1 ≤ extra x → Occupied g x
+
+-- a node whose last reference is gone
+pub record Unnamed (h : Heap) (n : ℕ) : Type 0 where
+  pub was : Occupied h n
+  pub zero : h .count n ≡ 0
+  pub extra : ℕ → ℕ
+  pub counts : Counted h extra
+
+-- node n of b has been freed in e, and its first j words made zero
+pub record Wiping (b e : List ℕ) (n j : ℕ) : Type 0 where
+  pub shaped : Shaped e
+  pub room-kept : room e ≡ room b
+  pub root : (v : ℕ) → v < 16 → word e (1 + v) ≡ word b (1 + v)
+  pub occupied : (m : ℕ) → m ≢ n → occupiedAt e m ≡ occupiedAt b m
+  pub free : occupiedAt e n ≡ false
+  pub words : (i m : ℕ) → i < 6 → m ≢ n → nodeWord e i m ≡ nodeWord b i m
+  pub zeros : (i : ℕ) → i < j → nodeWord e i n ≡ 0
+
+-- one reference more to n, or none where n is 0
+pub record Raised (h g : Heap) (n : ℕ) : Type 0 where
+  pub same : Same h g
+  pub root : (v : ℕ) → v < 16 → g .root v ≡ h .root v
+  pub none : g .count 0 ≡ h .count 0
+  pub counts : (m : ℕ) → 1 ≤ m → g .count m ≡ h .count m + hit n m
+
+-- node n of b has been taken in e, and its first j words are those of xs
+pub record Writing (b e : List ℕ) (n : ℕ) (xs : ℕ → ℕ) (j : ℕ) : Type 0 where
+  pub shaped : Shaped e
+  pub room-kept : room e ≡ room b
+  pub root : (v : ℕ) → v < 16 → word e (1 + v) ≡ word b (1 + v)
+  pub occupied : (m : ℕ) → m ≢ n → occupiedAt e m ≡ occupiedAt b m
+  pub taken : occupiedAt e n ≡ true
+  pub words : (i m : ℕ) → i < 6 → m ≢ n → nodeWord e i m ≡ nodeWord b i m
+  pub here : (i : ℕ) → i < j → nodeWord e i n ≡ xs i
+
+-- The running call. The supply has not fallen short, and its next numbers are the free ones, in order.
+pub record Stocked (h : Heap) (s : Supply) : Type 0 where
+  pub free : free h ≡ drop (s .makes) (s .free)
+  pub enough : short s ≡ false
+
+-- what holds of a block while a call makes nodes
+pub record Running (b : List ℕ) : Type 0 where
+  pub shaped : Shaped b
+  pub linked : Linked (heap b)
+  pub counts : Counted (heap b) (λ x. 0)
+
+-- nodes were added to h, and nothing that stood was touched but for its count
+pub record Grown (h g : Heap) : Type 0 where
+  pub linked : Linked g
+  pub counts : Counted g (λ x. 0)
+  pub room : g .room ≡ h .room
+  pub root : (v : ℕ) → v < 16 → g .root v ≡ h .root v
+  pub kept : (m : ℕ) → Named h m → Named g m
+  pub trees : (m : ℕ) → Named h m → tree g m ≡ tree h m
+
+-- the call has come from h to g as the rule m does, and x is what m gives, whatever supply h's free numbers are
+pub record Ran (X : Type 0) (h g : Heap) (x : X) (m : Make X) : Type 0 where
+  pub grown : Grown h g
+  pub stocked : (s : Supply) → Stocked h s → Stocked g (m s .1)
+  pub is : (s : Supply) → Stocked h s → m s .0 ≡ x
+
+-- the call has come from h to g, and the rule m makes more nodes than there are
+pub record Stuck (X : Type 0) (h g : Heap) (m : Make X) : Type 0 where
+  pub grown : Grown h g
+  pub short : (s : Supply) → Stocked h s → short (m s .1) ≡ true

@@ -1,0 +1,38 @@
+-- Numbers a call gives back; 0 is none of them: done.
+use Prim.Native.Nat.{ℕ}
+
+-- block length or N is wrong, or inbox not 130 words
+abbrev pub SHAPE : ℕ
+SHAPE = 1
+
+-- block not sound, or inbox not sound
+abbrev pub DAMAGED : ℕ
+DAMAGED = 2
+
+-- a version number above 15
+abbrev pub VERSION : ℕ
+VERSION = 3
+
+-- unknown rule, or cancelling with difference rule 2
+abbrev pub RULE : ℕ
+RULE = 4
+
+-- nodes the rules make in this call exceed those free at entry
+abbrev pub NO_ROOM : ℕ
+NO_ROOM = 5
+
+-- a listing walk puts more than 64 pending items on one side
+abbrev pub TOO_DEEP : ℕ
+TOO_DEEP = 6
+
+-- line malformed
+abbrev pub FRAME : ℕ
+FRAME = 7
+
+-- another batch number
+abbrev pub BATCH : ℕ
+BATCH = 8
+
+-- inbox count not zero and unlike the frame's
+abbrev pub COUNT : ℕ
+COUNT = 9

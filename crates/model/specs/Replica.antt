@@ -1,0 +1,71 @@
+-- A standby that hears the frames of a batch.
+use mathlib.Core.Path.{_≡_}
+use mathlib.Core.Logic.{_⊎_}
+use Prim.Native.Nat.{ℕ, zero, suc, _<_}
+use mathlib.Core.Bool.{Bool, true, false, _||_}
+use mathlib.Core.List.{List, [], _∷_}
+use lib.Dec.{eqb}
+use Rattle.model.specs.Tree.{Entry, put, without}
+use Rattle.model.specs.Frame.{Frame}
+use Rattle.model.specs.Inbox.{batchOf, countOf, heardAt, marked}
+use Rattle.model.specs.Numbers.{NO_ROOM, BATCH, COUNT}
+
+-- its inbox, and the entries of the version that it edits
+pub record Standby : Type 0 where
+  pub inbox : List ℕ
+  pub entries : List Entry
+
+-- a well-formed line reaches it; its edit finds room, or does not
+pub record Arrival : Type 0 where
+  pub frame : Frame
+  pub room : Bool
+
+-- what it answers
+pub data Reply : Type 0 where
+  refused : ℕ → Reply
+  repeat : Reply
+  new : Reply
+
+-- another batch number; count not zero and unlike the frame's; heard already; no room; else accepted as new
+unfoldable pub reply : List ℕ → Arrival → Reply
+reply x a = elim (eqb (a .frame .batch) (batchOf x)) [
+  | false ↦ refused BATCH
+  | true ↦ elim (eqb (countOf x) 0 || eqb (countOf x) (a .frame .count)) [
+    | false ↦ refused COUNT
+    | true ↦ elim (heardAt x (a .frame .index)) [
+      | true ↦ repeat
+      | false ↦ elim (a .room) [ true ↦ new | false ↦ refused NO_ROOM ]
+    ]
+  ]
+]
+
+-- the edit of a frame
+unfoldable pub edited : Frame → List Entry → List Entry
+edited f es = elim (f .kind) [
+  | zero ↦ es
+  | suc k ↦ elim k [ zero ↦ put es (f .key) (f .value) | suc j ↦ without es (f .key) ]
+]
+
+-- only a new line changes anything: it does its edit and is marked
+unfoldable pub hear : Standby → Arrival → Standby
+hear s a = elim (reply (s .inbox) a) [
+  | refused n ↦ s
+  | repeat ↦ s
+  | new ↦ record { inbox = marked (s .inbox) (a .frame .count) (a .frame .index); entries = edited (a .frame) (s .entries) }
+]
+
+-- lines one after another
+unfoldable pub hears : Standby → List Arrival → Standby
+hears s [] = s
+hears s (a ∷ later) = hears (hear s a) later
+
+-- new or repeat
+unfoldable pub accepted : Reply → Bool
+accepted (refused n) = false
+accepted repeat = true
+accepted new = true
+
+-- index i has been accepted at least once
+unfoldable pub Accepted : Standby → List Arrival → ℕ → Type 0
+Accepted s [] i = ⊥
+Accepted s (a ∷ later) i = ((a .frame .index ≡ i) × (accepted (reply (s .inbox) a) ≡ true)) ⊎ Accepted (hear s a) later i

@@ -1,0 +1,1 @@
+// Document 01 as definitions: all of this crate stands in specs/ and proofs/.
