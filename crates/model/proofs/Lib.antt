@@ -19,4 +19,5 @@ pub mod Bits
 pub mod Lists
 pub mod Giveups
 pub mod Wipes
+pub mod Steady
 pub mod Growing

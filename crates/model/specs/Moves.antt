@@ -3,6 +3,7 @@ use mathlib.Core.Path.{_≡_}
 use mathlib.Core.Logic.{_≢_}
 use Prim.Native.Nat.{ℕ, zero, suc, _+_, _≤_, _<_}
 use mathlib.Core.Bool.{Bool, true, false}
+use mathlib.Core.Option.{Option, none, some}
 use mathlib.Core.List.{List}
 use lib.ListN.{drop}
 use Rattle.model.specs.Supply.{Supply, Make, short}
@@ -125,10 +126,7 @@ pub record Writing (b e : List ℕ) (n : ℕ) (xs : ℕ → ℕ) (j : ℕ) : Typ
   pub words : (i m : ℕ) → i < 6 → m ≢ n → nodeWord e i m ≡ nodeWord b i m
   pub here : (i : ℕ) → i < j → nodeWord e i n ≡ xs i
 
--- The running call. The supply has not fallen short, and its next numbers are the free ones, in order.
-pub record Stocked (h : Heap) (s : Supply) : Type 0 where
-  pub free : free h ≡ drop (s .makes) (s .free)
-  pub enough : short s ≡ false
+-- The running call.
 
 -- what holds of a block while a call makes nodes
 pub record Running (b : List ℕ) : Type 0 where
@@ -138,20 +136,23 @@ pub record Running (b : List ℕ) : Type 0 where
 
 -- nodes were added to h, and nothing that stood was touched but for its count
 pub record Grown (h g : Heap) : Type 0 where
-  pub linked : Linked g
-  pub counts : Counted g (λ x. 0)
   pub room : g .room ≡ h .room
   pub root : (v : ℕ) → v < 16 → g .root v ≡ h .root v
   pub kept : (m : ℕ) → Named h m → Named g m
   pub trees : (m : ℕ) → Named h m → tree g m ≡ tree h m
 
--- the call has come from h to g as the rule m does, and x is what m gives, whatever supply h's free numbers are
-pub record Ran (X : Type 0) (h g : Heap) (x : X) (m : Make X) : Type 0 where
-  pub grown : Grown h g
-  pub stocked : (s : Supply) → Stocked h s → Stocked g (m s .1)
-  pub is : (s : Supply) → Stocked h s → m s .0 ≡ x
+-- the supply has not fallen short, and its next numbers are the free ones, in order
+pub record Stocked (h : Heap) (s : Supply) : Type 0 where
+  pub free : free h ≡ drop (s .makes) (s .free)
+  pub enough : short s ≡ false
 
--- the call has come from h to g, and the rule m makes more nodes than there are
-pub record Stuck (X : Type 0) (h g : Heap) (m : Make X) : Type 0 where
-  pub grown : Grown h g
-  pub short : (s : Supply) → Stocked h s → short (m s .1) ≡ true
+-- what a rule gave is x, with a supply for g; where x is none, the supply ran short
+abbrev pub Gives : {X : Type 0} → Heap → Option X → X × Supply → Type 0
+Gives g (some x) r = (r .0 ≡ x) × Stocked g (r .1)
+Gives g none r = short (r .1) ≡ true
+
+-- the call has come from b to e as the rule m does, whatever supply has b's free numbers: x is what m gives, or m makes more nodes than there are
+pub record Came (X : Type 0) (b e : List ℕ) (x : Option X) (m : Make X) : Type 0 where
+  pub running : Running e
+  pub grown : Grown (heap b) (heap e)
+  pub gives : (s : Supply) → Stocked (heap b) s → Gives (heap e) x (m s)
