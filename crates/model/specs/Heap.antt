@@ -102,6 +102,15 @@ freeFrom occupied n (suc k) = elim (occupied n) [ true ↦ freeFrom occupied (su
 abbrev pub free : Heap → List ℕ
 free h = freeFrom (h .occupied) 1 (h .room)
 
+-- the first of a list, or 0
+unfoldable pub firstOf : List ℕ → ℕ
+firstOf [] = 0
+firstOf (n ∷ ns) = n
+
+-- the lowest unoccupied number, or 0 where there is none
+abbrev pub lowest : Heap → ℕ
+lowest h = firstOf (free h)
+
 -- a call's supply at entry
 unfoldable pub supply : Heap → Supply
 supply h = record { free = free h; makes = 0 }

@@ -1,0 +1,89 @@
+-- The search for the lowest free node.
+use mathlib.Core.Path.{_≡_, refl, sym, ap, _∙_}
+use mathlib.Core.Logic.{_≢_}
+use mathlib.Core.Bool.{Bool, true, false}
+use mathlib.Core.List.{List, [], _∷_}
+use Prim.Native.Nat.{ℕ, zero, suc, _+_, _-_, _*_, _/_, _%_, _^_, _≤_, _<_}
+use native.Mathlib.Nat.{add-suc, add-zero, suc-add, zero-add}
+use native.Mathlib.Omega.{arith}
+use lib.ListN.{getD, drop}
+use lib.Dec.{ltb, eqb}
+use lib.Count.{trailingZeros}
+use borrow.Author.Tests.{lt-ltb, eqb-false, ne-eqb}
+use Rattle.model.specs.Block.{word, room, bit, occupiedAt, Shaped}
+use Rattle.model.specs.Heap.{freeFrom, firstOf}
+use Rattle.block.proofs.Bits.{below-all-set, at-clear}
+
+-- nodes that are taken are passed over
+skip : (occ : ℕ → Bool) (m a k : ℕ) → ((x : ℕ) → a ≤ x → x < a + m → occ x ≡ true) → freeFrom occ a (m + k) ≡ freeFrom occ (a + m) k
+unfolding freeFrom
+skip occ zero a k h = rw (zero-add, add-zero)
+skip occ (suc m) a k h =
+    rw (suc-add m k) (rw (h a (omega arith) (omega arith), freeFrom) (skip occ m (suc a) k (λ x p q. h x (omega arith) (omega arith)) ∙ ap (λ i. freeFrom occ i k) (omega arith)))
+
+here : (occ : ℕ → Bool) (a k : ℕ) → occ a ≡ false → firstOf (freeFrom occ a (suc k)) ≡ a
+unfolding freeFrom firstOf
+here occ a k e = rw (e, freeFrom)
+
+pub none-left : (occ : ℕ → Bool) (a : ℕ) → firstOf (freeFrom occ a 0) ≡ 0
+unfolding freeFrom firstOf
+none-left occ a = refl
+
+-- the first 0 of an occupancy word, as the code finds it
+abbrev pub low0 : List ℕ → ℕ → ℕ
+low0 b w = trailingZeros 32 (2 ^ 32 - 1 - word b (17 + w))
+
+module _ (b : List ℕ) (w : ℕ) (fits : word b (17 + w) < 2 ^ 32) (whole : room b % 32 ≡ 0) (in-range : w < room b / 32) where
+  occupied-in : (x j : ℕ) → x ≡ suc (32 * w + j) → j < 32 → occupiedAt b x ≡ eqb (bit (word b (17 + w)) j) 1
+  occupied-in x j e lt =
+      let q : (32 * w + j) / 32 ≡ w = omega arith in
+      let r : (32 * w + j) % 32 ≡ j = omega arith in
+      rw e (rw (lt-ltb (32 * w + j) (room b) (omega arith), q, r))
+
+  taken-in : (m : ℕ) → m ≤ 32 → m ≤ low0 b w → (x : ℕ) → suc (32 * w) ≤ x → x < suc (32 * w) + m → occupiedAt b x ≡ true
+  taken-in m six le x p q = occupied-in x (x - suc (32 * w)) (omega arith) (omega arith) ∙ rw (below-all-set 32 (word b (17 + w)) (x - suc (32 * w)) fits (omega arith))
+
+  -- every node of word w is taken
+  pub over-word : 32 ≤ low0 b w → freeFrom (occupiedAt b) (suc (32 * w)) (room b - 32 * w) ≡ freeFrom (occupiedAt b) (suc (32 * (w + 1))) (room b - 32 * (w + 1))
+  over-word full =
+      let split : room b - 32 * w ≡ 32 + (room b - 32 * (w + 1)) = omega arith in
+      let next : suc (32 * w) + 32 ≡ suc (32 * (w + 1)) = omega arith in
+      ap (λ k. freeFrom (occupiedAt b) (suc (32 * w)) k) split
+      ∙ skip (occupiedAt b) 32 (suc (32 * w)) (room b - 32 * (w + 1)) (taken-in 32 (omega arith) full)
+      ∙ ap (λ j. freeFrom (occupiedAt b) j (room b - 32 * (w + 1))) next
+
+  -- bit `low0 b w` of word w is the first free node's
+  pub in-word : low0 b w < 32 → firstOf (freeFrom (occupiedAt b) (suc (32 * w)) (room b - 32 * w)) ≡ 32 * w + low0 b w + 1
+  in-word h =
+      let split : room b - 32 * w ≡ low0 b w + suc (room b - 32 * w - low0 b w - 1) = omega arith in
+      ap (λ k. firstOf (freeFrom (occupiedAt b) (suc (32 * w)) k)) split
+      ∙ ap firstOf (skip (occupiedAt b) (low0 b w) (suc (32 * w)) (suc (room b - 32 * w - low0 b w - 1)) (taken-in (low0 b w) (omega arith) (omega arith)))
+      ∙ here (occupiedAt b) (suc (32 * w) + low0 b w) (room b - 32 * w - low0 b w - 1) (occupied-in (suc (32 * w) + low0 b w) (low0 b w) (omega arith) h ∙ rw (at-clear 32 (word b (17 + w)) fits h))
+      ∙ omega arith
+
+-- what was found
+pub found-cons : (fs : List ℕ) (n : ℕ) → n ≡ firstOf fs → n ≢ 0 → fs ≡ n ∷ drop 1 fs
+unfolding firstOf
+found-cons [] n e ne = absurd (ne e)
+found-cons (f ∷ fs) n e ne = rw e
+
+pub found-none : (occ : ℕ → Bool) (a k : ℕ) → 1 ≤ a → firstOf (freeFrom occ a k) ≡ 0 → freeFrom occ a k ≡ []
+unfolding freeFrom firstOf
+found-none occ a zero p e = refl
+found-none occ a (suc k) p e = go (occ a) refl (found-none occ (suc a) k (omega arith))
+  where
+    go : (t : Bool) → occ a ≡ t → (firstOf (freeFrom occ (suc a) k) ≡ 0 → freeFrom occ (suc a) k ≡ []) → freeFrom occ a (suc k) ≡ []
+    go true o ih = rw (o, freeFrom) (ih (rw (o, freeFrom) at e))
+    go false o ih = let z : a ≡ 0 = rw (o, freeFrom) at e in absurd (omega arith)
+
+pub found-free : (occ : ℕ → Bool) (a k n : ℕ) (ns : List ℕ) → freeFrom occ a k ≡ n ∷ ns → (occ n ≡ false) × (a ≤ n) × (n < a + k)
+unfolding freeFrom
+found-free occ a zero n ns e = let z : _≡_ {A = ℕ} 0 1 = cc e in absurd (omega arith)
+found-free occ a (suc k) n ns e = go (occ a) refl (found-free occ (suc a) k n ns)
+  where
+    go : (t : Bool) → occ a ≡ t → (freeFrom occ (suc a) k ≡ n ∷ ns → (occ n ≡ false) × (suc a ≤ n) × (n < suc a + k)) → (occ n ≡ false) × (a ≤ n) × (n < a + suc k)
+    go true o ih = let r = ih (rw (o, freeFrom) at e) in (r .0, omega arith, omega arith)
+    go false o ih =
+        let e′ : a ∷ freeFrom occ (suc a) k ≡ n ∷ ns = rw (o, freeFrom) at e in
+        let q : a ≡ n = cc e′ in
+        (rw (← q) o, omega arith, omega arith)

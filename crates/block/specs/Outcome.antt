@@ -1,0 +1,31 @@
+-- What a function that makes nodes gives back.
+use Prim.Native.Nat.{ℕ}
+use Rattle.model.specs.Tree.{Tree}
+use Rattle.model.specs.Supply.{Make}
+use Rattle.model.specs.Heap.{Heap, Named, tree}
+use Rattle.model.specs.Block.{heap}
+use Rattle.model.specs.Moves.{Came}
+use mathlib.Core.List.{List}
+use mathlib.Core.Option.{Option, none, some}
+use Rattle.block.specs.declared.Node.{Node}
+use Rattle.block.specs.declared.Made.{Made}
+use Rattle.block.specs.declared.Made.the-variants.{At, Full}
+
+-- the tree below what was made
+abbrev pub treeAt : Heap → Made → Option Tree
+treeAt g (At n) = some (tree g n)
+treeAt g Full = none
+
+-- what was made stands
+abbrev pub Stands : Heap → Made → Type 0
+Stands g (At n) = Named g n
+Stands g Full = Unit {0}
+
+-- b became e by the rule m: its tree is below the answer, or m makes more nodes than are free in b
+pub record Outcome (b e : List ℕ) (q : Made) (m : Make Tree) : Type 0 where
+  pub named : Stands (heap e) q
+  pub came : Came Tree b e (treeAt (heap e) q) m
+
+-- node n without its size and count
+abbrev pub nodeOf : Heap → ℕ → Node
+nodeOf h n = record { key = h .key n; value = h .value n; left = h .left n; right = h .right n }
