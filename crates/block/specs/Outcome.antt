@@ -8,8 +8,15 @@ use Rattle.model.specs.Moves.{Came}
 use mathlib.Core.List.{List}
 use mathlib.Core.Option.{Option, none, some}
 use Rattle.block.specs.declared.Node.{Node}
+use Rattle.block.specs.declared.Found.{Found}
+use Rattle.block.specs.declared.Found.the-variants.{Value, Absent}
 use Rattle.block.specs.declared.Made.{Made}
 use Rattle.block.specs.declared.Made.the-variants.{At, Full}
+
+-- the value that was found
+abbrev pub answer : Found → Option ℕ
+answer (Value v) = some v
+answer Absent = none
 
 -- the tree below what was made
 abbrev pub treeAt : Heap → Made → Option Tree

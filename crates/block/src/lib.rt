@@ -112,6 +112,13 @@ pub fn read(b: &[u32], n: u32) -> Node
     }
 }
 
+// The value under a key, if there is one.
+pub enum Found {
+    Value(u32),
+    Absent,
+}
+
+// The node that was made, if there was room.
 pub enum Made {
     At(u32),
     Full,

@@ -39,8 +39,8 @@ make-takes k v l r s = refl
 pub no-room-exactly : {X : Type 0} (m : Make X) → Steady m → (h : Heap) → ((short (m (supply h) .1) ≡ true → length (free h) < m (supply h) .1 .makes) × (length (free h) < m (supply h) .1 .makes → short (m (supply h) .1) ≡ true))
 unfolding short supply
 no-room-exactly m f h = let q = f (supply h) .free in (
-    (λ e. rw q at (ltb-true (length (m (supply h) .1 .free)) (m (supply h) .1 .makes) e)),
-    (λ p. rw q (lt-ltb (length (free h)) (m (supply h) .1 .makes) p)),
+  (λ e. rw q at (ltb-true (length (m (supply h) .1 .free)) (m (supply h) .1 .makes) e)),
+  (λ p. rw q (lt-ltb (length (free h)) (m (supply h) .1 .makes) p)),
 )
 
 -- Every rule only makes.
