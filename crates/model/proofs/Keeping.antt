@@ -1,12 +1,12 @@
 -- What every make keeps, all the rules keep.
-use mathlib.Core.Path.{_≡_, refl, ap, sym, subst, _∙_}
-use Prim.Native.Nat.{ℕ, zero, suc, _+_, _*_, _≤_, _<_, compare, Ordering, Ordering·lt, Ordering·eq, Ordering·gt}
+use mathlib.Core.Path.{_≡_, refl}
+use Prim.Native.Nat.{ℕ, zero, suc, _+_, _*_, compare, Ordering, Ordering·lt, Ordering·eq, Ordering·gt}
 use mathlib.Core.Bool.{Bool, true, false, _&&_}
 use mathlib.Core.Option.{Option, none, some}
 use lib.Dec.{ltb, leb, eqb}
 use Rattle.model.specs.Tree.{Tree, leaf, node, size, lookup}
 use Rattle.model.specs.Supply.{Supply, Make, make, done, apart, _>>=_, _>>_, given, next, taken}
-use Rattle.model.specs.Rules.{weight, twice, rotateLeft, rotateRight, balanced, insertBy, insert, Least, removeMin, withoutKey, removePresent, remove, join, Parts, split, mergedLeft, mergedRight, unionBy, union, rest, kept, difference}
+use Rattle.model.specs.Rules.{weight, twice, rotateLeft, rotateRight, balanced, insertBy, insert, removeMin, withoutKey, removePresent, remove, join, Parts, split, mergedLeft, mergedRight, unionBy, union, rest, kept, difference}
 
 -- what holds of trees (P) and of supplies (A) is kept by taking a node apart and by making one
 pub record Keeping (P : Tree → Type 0) (A : Supply → Type 0) : Type 0 where

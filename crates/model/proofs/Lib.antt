@@ -8,7 +8,9 @@ pub mod Steps
 pub mod Giving
 pub mod Sorts
 pub mod Edits
+pub mod Finds
 pub mod Unions
+pub mod Differences
 pub mod Words
 pub mod Lookups
 pub mod Keeping
@@ -16,7 +18,6 @@ pub mod Cancel
 pub mod Bound
 pub mod Pinned
 pub mod Bits
-pub mod Lists
 pub mod Giveups
 pub mod Wipes
 pub mod Steady

@@ -1,17 +1,16 @@
 -- Rules only make: the numbers free at entry stay, and the makes never fall back. So NO_ROOM is decided by the count of makes.
-use mathlib.Core.Path.{_≡_, refl, ap, sym, _∙_}
-use Prim.Native.Nat.{ℕ, zero, suc, _+_, _≤_, _<_}
-use mathlib.Core.Bool.{Bool, true, false}
+use mathlib.Core.Path.{_≡_, refl, _∙_}
+use Prim.Native.Nat.{ℕ, _≤_, _<_}
+use mathlib.Core.Bool.{Bool, true}
 use mathlib.Core.Option.{Option}
 use lib.ListN.{length, getD}
-use lib.Dec.{ltb}
 use borrow.Author.Tests.{lt-ltb, ltb-true}
 use native.Mathlib.Omega.{arith}
 use Rattle.model.specs.Tree.{Tree, node}
 use Rattle.model.specs.Supply.{Supply, Make, make, next, taken, given, short}
 use Rattle.model.specs.Rules.{balanced, insertBy, insert, removeMin, withoutKey, removePresent, remove, join, split, unionBy, union, rest, difference}
 use Rattle.model.specs.Heap.{Heap, free, supply}
-use Rattle.model.proofs.Keeping.{Keeping, Keep, make-ok, balanced-ok, insertBy-ok, insert-ok, removeMin-ok, withoutKey-ok, removePresent-ok, remove-ok, join-ok, split-ok, unionBy-ok, union-ok, rest-ok, difference-ok}
+use Rattle.model.proofs.Keeping.{Keeping, make-ok, balanced-ok, insertBy-ok, insert-ok, removeMin-ok, withoutKey-ok, removePresent-ok, remove-ok, join-ok, split-ok, unionBy-ok, union-ok, rest-ok, difference-ok}
 
 -- t is s some makes later
 pub record Later (s t : Supply) : Type 0 where

@@ -1,5 +1,5 @@
 -- The tree rules of document 01, in its order.
-use Prim.Native.Nat.{ℕ, zero, suc, _+_, _*_, _-_, compare, Ordering, Ordering·lt, Ordering·eq, Ordering·gt}
+use Prim.Native.Nat.{ℕ, zero, suc, min, max, _+_, _*_, _-_, compare, Ordering, Ordering·lt, Ordering·eq, Ordering·gt}
 use mathlib.Core.Bool.{Bool, true, false, _&&_}
 use mathlib.Core.Option.{Option, none, some}
 use lib.Dec.{ltb, leb, eqb}
@@ -233,9 +233,9 @@ difference diff cancel (node i h w ll lr) (node j g u rl rr) =
 unfoldable pub mergeBy : ℕ → ℕ → ℕ → ℕ
 mergeBy zero x y = x
 mergeBy (suc zero) x y = y
-mergeBy (suc (suc zero)) x y = elim (ltb x y) [ true ↦ x | false ↦ y ]
-mergeBy (suc (suc (suc zero))) x y = elim (ltb x y) [ true ↦ y | false ↦ x ]
-mergeBy (suc (suc (suc (suc n)))) x y = elim (ltb 4294967295 (x + y)) [ true ↦ 4294967295 | false ↦ x + y ]
+mergeBy (suc (suc zero)) x y = min x y
+mergeBy (suc (suc (suc zero))) x y = max x y
+mergeBy (suc (suc (suc (suc n)))) x y = min (x + y) 4294967295
 
 -- difference rules for a common key: 0 drop; 1 drop if equal, else left; 2 left; 3 left minus right if larger, else drop
 unfoldable pub diffBy : ℕ → ℕ → ℕ → Option ℕ
