@@ -6,7 +6,7 @@ use mathlib.Core.List.{List, [], _∷_, _++_}
 use lib.ListN.{length}
 use native.Mathlib.Omega.{arith}
 use native.Mathlib.Decide.{decLt}
-use Rattle.model.specs.Tree.{Entry, cut, find, AllBelow, AllAbove, Sorted, less, Is}
+use Rattle.model.specs.Tree.{Entry, cut, find, without, AllBelow, AllAbove, Sorted, less, Is}
 use Rattle.model.proofs.Compare.{cmp-lt, cmp-eq, cmp-gt, lt-cmp, eq-cmp, gt-cmp}
 use Rattle.model.proofs.Entries.{cut-less, cut-same, cut-more}
 use Rattle.model.proofs.Sorts.{sorted-split, allAbove-trans, allAbove-append}
@@ -154,6 +154,11 @@ append-is h xs ys f g F A B f0 g0 low at high = record { sorted = sorted-append 
     go k Ordering·eq e = let q = cmp-eq k h e in find-append-low h xs ys k above (omega arith) ∙ A .finds k ∙ f0 k (omega arith) ∙ at ∙ ap F (sym q)
     go k Ordering·gt e = find-append-high h xs ys k below (omega (arith, cmp-gt k h e)) ∙ B .finds k ∙ high k (cmp-gt k h e)
 
+-- a list without a key still ascends
+pub sorted-without : (es : List Entry) (k : ℕ) → Sorted es → Sorted (without es k)
+sorted-without es k s = let C = cut-facts es k s in sorted-append k (cut es k .before) (cut es k .after) (C .sorted-before) (C .below) (C .above) (C .sorted-after)
+
+-- a map has one ascending list
 pub sorted-ext : (xs ys : List Entry) → Sorted xs → Sorted ys → ((k : ℕ) → find xs k ≡ find ys k) → xs ≡ ys
 unfolding Sorted cut AllAbove
 sorted-ext [] [] a b e = refl

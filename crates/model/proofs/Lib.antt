@@ -1,5 +1,6 @@
 pub mod Compare
 pub mod Entries
+pub mod Joins
 pub mod Loads
 pub mod Counts
 pub mod Reach
@@ -11,6 +12,9 @@ pub mod Edits
 pub mod Finds
 pub mod Unions
 pub mod Differences
+pub mod Orders
+pub mod Versions
+pub mod Cases
 pub mod Words
 pub mod Lookups
 pub mod Keeping

@@ -1,0 +1,124 @@
+-- Document 01's small trees worked through: cases 1 to 8 in one table under one claim, by computation.
+use mathlib.Core.Path.{_≡_, refl}
+use Prim.Native.Nat.{ℕ, zero, suc, _+_, _*_}
+use mathlib.Core.Bool.{Bool, true, false, _||_}
+use mathlib.Core.Option.{Option, none, some}
+use mathlib.Core.List.{List, [], _∷_, map}
+use lib.Dec.{eqb}
+use Rattle.model.specs.Tree.{Tree, leaf, node, Entry, size, idOf, lookup, entries}
+use Rattle.model.specs.Supply.{Supply, Make, next, taken, given}
+use Rattle.model.specs.Rules.{twice, rotateLeft, rotateRight, balanced, insertBy, insert, removeMin, withoutKey, join, split, unionBy, union, rest, difference, mergeBy, diffBy}
+use Rattle.model.specs.Listing.{Row, turn, tooDeep, walk, listing}
+use Rattle.model.specs.Delta.{Change, changed, puts, removes, delta}
+use Rattle.model.specs.Heap.{freeFrom}
+use Rattle.model.specs.Frame.{Frame, nothing, frameOf, numbered, framesOf, frames}
+
+-- a tree's keys as they hang
+pub data Shape : Type 0 where
+  bare : Shape
+  at : ℕ → Shape → Shape → Shape
+
+shape : Tree → Shape
+shape leaf = bare
+shape (node i k v l r) = at k (shape l) (shape r)
+
+keys : List Entry → List ℕ
+keys [] = []
+keys (e ∷ es) = e .0 ∷ keys es
+
+-- a key without children
+abbrev one : ℕ → Shape
+one k = at k bare bare
+
+-- the node n occurs in a tree
+occurs : Tree → ℕ → Bool
+occurs leaf n = false
+occurs (node i k v l r) n = eqb i n || (occurs l n || occurs r n)
+
+-- a call at N = 32 whose block holds the trees a and b, and no other
+supplyBeside : Tree → Tree → Supply
+supplyBeside a b = record { free = freeFrom (λ n. occurs a n || occurs b n) 1 32; makes = 0 }
+
+-- entries inserted one after another into a version, beside another version
+built : Tree → Tree → List Entry → Tree
+built beside t [] = t
+built beside t (e ∷ es) = built beside (insert t (e .0) (e .1) (supplyBeside beside t) .0) es
+
+-- from fresh, version 0 throughout, values ten times the key
+abbrev three : Tree
+three = built leaf leaf ((1, 10) ∷ (2, 20) ∷ (3, 30) ∷ [])
+
+abbrev four : Tree × Supply
+four = insert three 4 40 (supplyBeside leaf three)
+
+-- case 6: copied, and 4→44 put in the copy
+abbrev copy : Tree
+copy = insert (four .0) 4 44 (supplyBeside leaf (four .0)) .0
+
+-- case 7: the same entries built apart
+abbrev apart : Tree
+apart = built three leaf ((1, 10) ∷ (2, 20) ∷ (3, 30) ∷ [])
+
+-- cases 4 and 5
+abbrev united : ℕ → Tree
+united rule =
+    let l = built leaf leaf ((1, 10) ∷ (2, 20) ∷ []) in
+    let r = built l leaf ((2, 25) ∷ (3, 30) ∷ []) in
+    union (mergeBy rule) l r (supplyBeside l r) .0
+
+abbrev lessened : ℕ → List ℕ
+lessened rule =
+    let r = built three leaf ((2, 20) ∷ (3, 31) ∷ []) in
+    keys (entries (difference (diffBy rule) false three r (supplyBeside three r) .0))
+
+-- what a case shows
+pub data Shown : Type 0 where
+  hangs : Shape → Shown
+  makes : (count root : ℕ) → Shown
+  holds : List ℕ → Shown
+  value : Option ℕ → Shown
+  lists : List Row → Shown
+  carries : List Change → Shown
+  sends : List Frame → Shown
+
+pub record Case : Type 0 where
+  pub number : ℕ
+  pub shown : Shown
+  pub told : Shown
+
+pub table : List Case
+table =
+    record { number = 1; shown = hangs (shape three); told = hangs (at 1 bare (at 2 bare (one 3))) }
+    ∷ record { number = 2; shown = hangs (shape (four .0)); told = hangs (at 2 (one 1) (at 3 bare (one 4))) }
+    ∷ record { number = 2; shown = makes (four .1 .makes) (idOf (four .0)); told = makes 5 8 }
+    ∷ record { number = 3; shown = hangs (shape (built leaf leaf ((1, 0) ∷ (4, 0) ∷ (3, 0) ∷ (2, 0) ∷ []))); told = hangs (at 3 (at 1 bare (one 2)) (one 4)) }
+    ∷ record { number = 4; shown = hangs (shape (united 0)); told = hangs (at 2 (one 1) (one 3)) }
+    ∷ record { number = 4; shown = value (lookup (united 0) 2); told = value (some 20) }
+    ∷ record { number = 4; shown = value (lookup (united 1) 2); told = value (some 25) }
+    ∷ record { number = 4; shown = value (lookup (united 2) 2); told = value (some 20) }
+    ∷ record { number = 4; shown = value (lookup (united 3) 2); told = value (some 25) }
+    ∷ record { number = 4; shown = value (lookup (united 4) 2); told = value (some 45) }
+    ∷ record { number = 5; shown = holds (lessened 0); told = holds (1 ∷ []) }
+    ∷ record { number = 5; shown = holds (lessened 1); told = holds (1 ∷ 3 ∷ []) }
+    ∷ record { number = 5; shown = holds (lessened 2); told = holds (1 ∷ 2 ∷ 3 ∷ []) }
+    ∷ record { number = 5; shown = holds (lessened 3); told = holds (1 ∷ []) }
+    ∷ record {
+      number = 6;
+      shown = lists (listing (four .0) copy .rows);
+      told = lists (record { key = 2; left = 20; right = some 20 } ∷ record { key = 3; left = 30; right = some 30 } ∷ record { key = 4; left = 40; right = some 44 } ∷ []);
+    }
+    ∷ record { number = 6; shown = carries (delta (four .0) copy); told = carries (record { key = 4; now = some 44 } ∷ []) }
+    ∷ record {
+      number = 7;
+      shown = lists (listing three apart .rows);
+      told = lists (record { key = 1; left = 10; right = some 10 } ∷ record { key = 2; left = 20; right = some 20 } ∷ record { key = 3; left = 30; right = some 30 } ∷ []);
+    }
+    ∷ record { number = 7; shown = sends (frames 7 three apart); told = sends (nothing 7 ∷ []) }
+    ∷ record { number = 8; shown = lists (listing three three .rows); told = lists [] }
+    ∷ record { number = 8; shown = lists (listing leaf three .rows); told = lists [] }
+    ∷ []
+
+-- every case shows what document 01 says
+pub worked-cases : map (λ (c : Case). c .shown) table ≡ map (λ (c : Case). c .told) table
+unfolding table shape keys occurs supplyBeside built size idOf lookup entries next taken given freeFrom twice rotateLeft rotateRight balanced insertBy insert removeMin withoutKey join split unionBy union rest difference mergeBy diffBy turn tooDeep walk listing changed puts removes delta frameOf numbered framesOf
+worked-cases = refl
