@@ -1,12 +1,12 @@
 -- Document 01's small trees worked through: cases 1 to 8 in one table under one claim, by computation.
 use mathlib.Core.Path.{_≡_, refl}
-use Prim.Native.Nat.{ℕ, zero, suc, _+_, _*_}
-use mathlib.Core.Bool.{Bool, true, false, _||_}
-use mathlib.Core.Option.{Option, none, some}
+use Prim.Native.Nat.{ℕ}
+use mathlib.Core.Bool.{Bool, false, _||_}
+use mathlib.Core.Option.{Option, some}
 use mathlib.Core.List.{List, [], _∷_, map}
 use lib.Dec.{eqb}
 use Rattle.model.specs.Tree.{Tree, leaf, node, Entry, size, idOf, lookup, entries}
-use Rattle.model.specs.Supply.{Supply, Make, next, taken, given}
+use Rattle.model.specs.Supply.{Supply, next, taken, given}
 use Rattle.model.specs.Rules.{twice, rotateLeft, rotateRight, balanced, insertBy, insert, removeMin, withoutKey, join, split, unionBy, union, rest, difference, mergeBy, diffBy}
 use Rattle.model.specs.Listing.{Row, turn, tooDeep, walk, listing}
 use Rattle.model.specs.Delta.{Change, changed, puts, removes, delta}

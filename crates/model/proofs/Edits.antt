@@ -1,15 +1,14 @@
 -- Split and remove against the plain list of entries.
-use mathlib.Core.Path.{_≡_, refl, ap, sym, subst, _∙_}
-use Prim.Native.Nat.{ℕ, zero, suc, _+_, _≤_, _<_, compare, Ordering, Ordering·lt, Ordering·eq, Ordering·gt}
-use mathlib.Core.Bool.{Bool, true, false}
+use mathlib.Core.Path.{_≡_, refl, ap, sym, _∙_}
+use Prim.Native.Nat.{ℕ, compare, Ordering, Ordering·lt, Ordering·eq, Ordering·gt}
 use mathlib.Core.Option.{Option, none, some}
 use mathlib.Core.List.{List, [], _∷_, _++_, append-assoc, append-nil}
 use lib.ListN.{length, length-append}
 use native.Mathlib.Omega.{arith}
-use Rattle.model.specs.Tree.{Tree, leaf, node, Entry, size, lookup, entries, Cut, cut, put, find, without, AllBelow, AllAbove, Ordered, Sorted}
-use Rattle.model.specs.Supply.{Supply, Make, make, given, next, taken}
-use Rattle.model.specs.Rules.{balanced, Least, removeMin, withoutKey, removePresent, remove, join, Parts, split}
-use Rattle.model.proofs.Entries.{Keeps, make-keeps, balanced-keeps, join-keeps, cut-less, cut-same, cut-more, lookup-entries}
+use Rattle.model.specs.Tree.{Tree, leaf, node, Entry, size, lookup, entries, Cut, cut, find, without, Ordered}
+use Rattle.model.specs.Supply.{Supply, Make, given}
+use Rattle.model.specs.Rules.{balanced, removeMin, withoutKey, removePresent, remove, Parts, split}
+use Rattle.model.proofs.Entries.{Keeps, balanced-keeps, join-keeps, cut-less, cut-same, cut-more, lookup-entries}
 
 pub size-length : (t : Tree) → size t ≡ length (entries t)
 unfolding size entries

@@ -1,15 +1,15 @@
 -- The tree rules against the plain list of entries.
-use mathlib.Core.Path.{_≡_, refl, ap, sym, subst, _∙_}
-use Prim.Native.Nat.{ℕ, zero, suc, _+_, _*_, _<_, compare, Ordering, Ordering·lt, Ordering·eq, Ordering·gt}
+use mathlib.Core.Path.{_≡_, refl, ap, sym, _∙_}
+use Prim.Native.Nat.{ℕ, _+_, _<_, compare, Ordering, Ordering·lt, Ordering·eq, Ordering·gt}
 use mathlib.Core.Bool.{Bool, true, false}
 use mathlib.Core.Option.{Option, none, some}
 use mathlib.Core.List.{List, [], _∷_, _++_, append-assoc, append-nil}
-use lib.Dec.{ltb, leb, eqb}
+use lib.Dec.{ltb}
 use native.Mathlib.Omega.{arith}
-use Rattle.model.specs.Tree.{Tree, leaf, node, Entry, size, lookup, entries, Cut, cut, put, find, without, AllBelow, AllAbove, Ordered, Sorted}
-use Rattle.model.specs.Supply.{Supply, Make, make, given, next, taken}
-use Rattle.model.specs.Rules.{weight, twice, rotateLeft, rotateRight, balanced, insertBy, insert, removeMin, withoutKey, removePresent, remove, join, split, unionBy, union, rest, difference}
-use Rattle.model.proofs.Compare.{cmp-lt, cmp-eq, cmp-gt, lt-cmp, eq-cmp, gt-cmp}
+use Rattle.model.specs.Tree.{Tree, leaf, node, Entry, size, lookup, entries, Cut, cut, put, find, AllBelow, Ordered}
+use Rattle.model.specs.Supply.{Supply, Make, make, given}
+use Rattle.model.specs.Rules.{heavy, once, larger, twice, rotateLeft, rotateRight, balanced, insertBy, insert, join}
+use Rattle.model.proofs.Compare.{cmp-eq, cmp-gt, gt-cmp}
 
 -- a way to make a node that keeps what the tree holds
 abbrev pub Keeps : (ℕ → ℕ → Tree → Tree → Make Tree) → Type 0
@@ -24,66 +24,38 @@ unfolding twice entries
 twice-keeps k v l leaf h w r s = simp append-assoc
 twice-keeps k v l (node i g u x y) h w r s = simp append-assoc
 
+-- whichever way a test goes
+either : (X : List Entry) (s : Supply) (b : Bool) (m n : Make Tree) → entries (m s .0) ≡ X → entries (n s .0) ≡ X → entries ((elim b as (λ _. Make Tree) [ true ↦ m | false ↦ n ]) s .0) ≡ X
+either X s true m n p q = p
+either X s false m n p q = q
+
 rotateLeft-keeps : Keeps rotateLeft
 unfolding rotateLeft entries
 rotateLeft-keeps k v l leaf s = refl
-rotateLeft-keeps k v l (node i h w rl rr) s = go (ltb (weight rl) (2 * weight rr)) refl
-  where
-    go : (b : Bool) → ltb (weight rl) (2 * weight rr) ≡ b → entries (rotateLeft k v l (node i h w rl rr) s .0) ≡ entries l ++ (k, v) ∷ (entries rl ++ (h, w) ∷ entries rr)
-    go true e = rw e (simp append-assoc)
-    go false e = rw e (twice-keeps k v l rl h w rr (given i s))
+rotateLeft-keeps k v l (node i h w rl rr) s = either _ (given i s) (once rl rr) _ _ (simp append-assoc) (twice-keeps k v l rl h w rr (given i s))
 
 rotateRight-keeps : Keeps rotateRight
 unfolding rotateRight entries
 rotateRight-keeps k v leaf r s = refl
-rotateRight-keeps k v (node i h w ll lr) r s = go (ltb (weight lr) (2 * weight ll)) refl
-  where
-    go : (b : Bool) → ltb (weight lr) (2 * weight ll) ≡ b → entries (rotateRight k v (node i h w ll lr) r s .0) ≡ (entries ll ++ (h, w) ∷ entries lr) ++ (k, v) ∷ entries r
-    go true e = rw e (simp append-assoc)
-    go false e = rw e (twice-keeps h w ll lr k v r (given i s) ∙ sym (append-assoc (entries ll) ((h, w) ∷ entries lr) ((k, v) ∷ entries r)))
+rotateRight-keeps k v (node i h w ll lr) r s = either _ (given i s) (once lr ll) _ _ (simp append-assoc) (twice-keeps h w ll lr k v r (given i s) ∙ sym (append-assoc (entries ll) ((h, w) ∷ entries lr) ((k, v) ∷ entries r)))
 
 pub balanced-keeps : Keeps balanced
 unfolding balanced
-balanced-keeps k v l r s = few (ltb (size l + size r) 2) refl
-  where
-    Goal : Type 0
-    Goal = entries (balanced k v l r s .0) ≡ entries l ++ (k, v) ∷ entries r
-
-    left-heavy : (b : Bool) → ltb (size l + size r) 2 ≡ false → ltb (3 * weight l) (weight r) ≡ false → ltb (3 * weight r) (weight l) ≡ b → Goal
-    left-heavy true e₁ e₂ e = rw (e₁, balanced) (rw e₂ (rw e (rotateRight-keeps k v l r s)))
-    left-heavy false e₁ e₂ e = rw (e₁, balanced) (rw e₂ (rw e (make-keeps k v l r s)))
-
-    right-heavy : (b : Bool) → ltb (size l + size r) 2 ≡ false → ltb (3 * weight l) (weight r) ≡ b → Goal
-    right-heavy true e₁ e = rw (e₁, balanced) (rw e (rotateLeft-keeps k v l r s))
-    right-heavy false e₁ e = left-heavy (ltb (3 * weight r) (weight l)) e₁ e refl
-
-    few : (b : Bool) → ltb (size l + size r) 2 ≡ b → Goal
-    few true e = rw (e, balanced) (make-keeps k v l r s)
-    few false e = right-heavy (ltb (3 * weight l) (weight r)) e refl
+balanced-keeps k v l r s = either _ s (ltb (size l + size r) 2) _ _ (make-keeps k v l r s) (either _ s (heavy r l) _ _ (rotateLeft-keeps k v l r s) (either _ s (heavy l r) _ _ (rotateRight-keeps k v l r s) (make-keeps k v l r s)))
 
 pub join-keeps : Keeps join
 unfolding join entries
 join-keeps k v leaf leaf s = balanced-keeps k v leaf leaf s
 join-keeps k v leaf (node j h w rl rr) s = balanced-keeps h w (join k v leaf rl (given j s) .0) rr (join k v leaf rl (given j s) .1) ∙ rw (join-keeps k v leaf rl (given j s)) refl
 join-keeps k v (node i h w ll lr) leaf s = balanced-keeps h w ll (join k v lr leaf (given i s) .0) (join k v lr leaf (given i s) .1) ∙ rw (join-keeps k v lr leaf (given i s)) (simp append-assoc)
-join-keeps k v (node i h w ll lr) (node j g u rl rr) s = right-larger (ltb (3 * size L) (size R)) refl (join-keeps k v L rl (given j s)) (join-keeps k v lr R (given i s))
-  where
-    L : Tree
-    L = node i h w ll lr
-
-    R : Tree
-    R = node j g u rl rr
-
-    Goal : Type 0
-    Goal = entries (join k v L R s .0) ≡ entries L ++ (k, v) ∷ entries R
-
-    left-larger : (b : Bool) → ltb (3 * size L) (size R) ≡ false → ltb (3 * size R) (size L) ≡ b → entries (join k v lr R (given i s) .0) ≡ entries lr ++ (k, v) ∷ entries R → Goal
-    left-larger true e₁ e ih = rw (e₁, entries) (rw (e, entries) (balanced-keeps h w ll (join k v lr R (given i s) .0) (join k v lr R (given i s) .1) ∙ rw ih (simp append-assoc)))
-    left-larger false e₁ e ih = rw (e₁, entries) (rw (e, entries) (balanced-keeps k v L R s))
-
-    right-larger : (b : Bool) → ltb (3 * size L) (size R) ≡ b → entries (join k v L rl (given j s) .0) ≡ entries L ++ (k, v) ∷ entries rl → entries (join k v lr R (given i s) .0) ≡ entries lr ++ (k, v) ∷ entries R → Goal
-    right-larger true e ihr ihl = rw (e, entries) (balanced-keeps g u (join k v L rl (given j s) .0) rr (join k v L rl (given j s) .1) ∙ rw ihr (simp append-assoc))
-    right-larger false e ihr ihl = left-larger (ltb (3 * size R) (size L)) e refl ihl
+join-keeps k v (node i h w ll lr) (node j g u rl rr) s =
+    let L : Tree = node i h w ll lr in
+    let R : Tree = node j g u rl rr in
+    either _ s (larger R L) _ _
+    (balanced-keeps g u (join k v L rl (given j s) .0) rr (join k v L rl (given j s) .1) ∙ rw (join-keeps k v L rl (given j s)) (simp append-assoc))
+    (either _ s (larger L R) _ _
+    (balanced-keeps h w ll (join k v lr R (given i s) .0) (join k v lr R (given i s) .1) ∙ rw (join-keeps k v lr R (given i s)) (simp append-assoc))
+    (balanced-keeps k v L R s))
 
 -- Lists
 

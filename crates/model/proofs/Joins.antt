@@ -1,11 +1,10 @@
 -- Join's rule in document 01's words: sizes are compared, and the larger side is descended.
 use mathlib.Core.Path.{_≡_, refl}
-use Prim.Native.Nat.{ℕ, zero, suc, _+_, _*_, _≤_, _<_}
-use lib.Dec.{ltb}
+use Prim.Native.Nat.{ℕ, _*_, _≤_, _<_}
 use borrow.Author.Tests.{lt-ltb, le-ltb}
 use native.Mathlib.Omega.{arith}
 use Rattle.model.specs.Tree.{Tree, leaf, node, size}
-use Rattle.model.specs.Supply.{Supply, Make, apart, _>>=_, _>>_}
+use Rattle.model.specs.Supply.{Supply, apart, _>>=_, _>>_}
 use Rattle.model.specs.Rules.{balanced, join}
 
 -- right > 3 × left descends the right's left spine, and the level is a balanced make

@@ -1,12 +1,12 @@
 -- What every make keeps, all the rules keep.
 use mathlib.Core.Path.{_≡_, refl}
-use Prim.Native.Nat.{ℕ, zero, suc, _+_, _*_, compare, Ordering, Ordering·lt, Ordering·eq, Ordering·gt}
+use Prim.Native.Nat.{ℕ, zero, suc, _+_, compare, Ordering, Ordering·lt, Ordering·eq, Ordering·gt}
 use mathlib.Core.Bool.{Bool, true, false, _&&_}
 use mathlib.Core.Option.{Option, none, some}
 use lib.Dec.{ltb, leb, eqb}
 use Rattle.model.specs.Tree.{Tree, leaf, node, size, lookup}
 use Rattle.model.specs.Supply.{Supply, Make, make, done, apart, _>>=_, _>>_, given, next, taken}
-use Rattle.model.specs.Rules.{weight, twice, rotateLeft, rotateRight, balanced, insertBy, insert, removeMin, withoutKey, removePresent, remove, join, Parts, split, mergedLeft, mergedRight, unionBy, union, rest, kept, difference}
+use Rattle.model.specs.Rules.{heavy, once, larger, twice, rotateLeft, rotateRight, balanced, insertBy, insert, removeMin, withoutKey, removePresent, remove, join, Parts, split, mergedLeft, mergedRight, unionBy, union, rest, kept, difference}
 
 -- what holds of trees (P) and of supplies (A) is kept by taking a node apart and by making one
 pub record Keeping (P : Tree → Type 0) (A : Supply → Type 0) : Type 0 where
@@ -64,20 +64,20 @@ module _ {P : Tree → Type 0} {A : Supply → Type 0} (K : Keeping P A) where
   rotateLeft-ok : Keep rotateLeft
   unfolding rotateLeft
   rotateLeft-ok k v l leaf pl pr = make-ok k v l leaf pl pr
-  rotateLeft-ok k v l (node i h w rl rr) pl pr = apart-ok P i _ (if-ok P (ltb (weight rl) (2 * weight rr)) _ _
+  rotateLeft-ok k v l (node i h w rl rr) pl pr = apart-ok P i _ (if-ok P (once rl rr) _ _
       (two-ok k v l rl h w rr pl (K .left i h w rl rr pr) (K .right i h w rl rr pr)) (twice-ok k v l rl h w rr pl (K .left i h w rl rr pr) (K .right i h w rl rr pr)))
 
   rotateRight-ok : Keep rotateRight
   unfolding rotateRight
   rotateRight-ok k v leaf r pl pr = make-ok k v leaf r pl pr
-  rotateRight-ok k v (node i h w ll lr) r pl pr = apart-ok P i _ (if-ok P (ltb (weight lr) (2 * weight ll)) _ _
+  rotateRight-ok k v (node i h w ll lr) r pl pr = apart-ok P i _ (if-ok P (once lr ll) _ _
       (two-ok′ k v lr r h w ll (K .right i h w ll lr pl) pr (K .left i h w ll lr pl)) (twice-ok h w ll lr k v r (K .left i h w ll lr pl) (K .right i h w ll lr pl) pr))
 
   pub balanced-ok : Keep balanced
   unfolding balanced
   balanced-ok k v l r pl pr = if-ok P (ltb (size l + size r) 2) _ _ (make-ok k v l r pl pr)
-      (if-ok P (ltb (3 * weight l) (weight r)) _ _ (rotateLeft-ok k v l r pl pr)
-      (if-ok P (ltb (3 * weight r) (weight l)) _ _ (rotateRight-ok k v l r pl pr) (make-ok k v l r pl pr)))
+      (if-ok P (heavy r l) _ _ (rotateLeft-ok k v l r pl pr)
+      (if-ok P (heavy l r) _ _ (rotateRight-ok k v l r pl pr) (make-ok k v l r pl pr)))
 
   pub join-ok : Keep join
   unfolding join
@@ -85,9 +85,9 @@ module _ {P : Tree → Type 0} {A : Supply → Type 0} (K : Keeping P A) where
   join-ok k v leaf (node j h w rl rr) pl pr = apart-ok P j _ (bind-ok P P (join k v leaf rl) (λ l′. balanced h w l′ rr) (join-ok k v leaf rl pl (K .left j h w rl rr pr)) (λ l′ p. balanced-ok h w l′ rr p (K .right j h w rl rr pr)))
   join-ok k v (node i h w ll lr) leaf pl pr = apart-ok P i _ (bind-ok P P (join k v lr leaf) (λ r′. balanced h w ll r′) (join-ok k v lr leaf (K .right i h w ll lr pl) pr) (λ r′ p. balanced-ok h w ll r′ (K .left i h w ll lr pl) p))
   join-ok k v (node i h w ll lr) (node j g u rl rr) pl pr =
-      if-ok P (ltb (3 * size (node i h w ll lr)) (size (node j g u rl rr))) _ _
+      if-ok P (larger (node j g u rl rr) (node i h w ll lr)) _ _
       (apart-ok P j _ (bind-ok P P (join k v (node i h w ll lr) rl) (λ l′. balanced g u l′ rr) (join-ok k v (node i h w ll lr) rl pl (K .left j g u rl rr pr)) (λ l′ p. balanced-ok g u l′ rr p (K .right j g u rl rr pr))))
-      (if-ok P (ltb (3 * size (node j g u rl rr)) (size (node i h w ll lr))) _ _
+      (if-ok P (larger (node i h w ll lr) (node j g u rl rr)) _ _
       (apart-ok P i _ (bind-ok P P (join k v lr (node j g u rl rr)) (λ r′. balanced h w ll r′) (join-ok k v lr (node j g u rl rr) (K .right i h w ll lr pl) pr) (λ r′ p. balanced-ok h w ll r′ (K .left i h w ll lr pl) p)))
       (balanced-ok k v (node i h w ll lr) (node j g u rl rr) pl pr))
 

@@ -1,17 +1,15 @@
 -- Every rule keeps the order of keys: its entries ascend.
-use mathlib.Core.Path.{_≡_, refl, sym, subst}
 use Prim.Native.Nat.{ℕ}
-use mathlib.Core.Bool.{Bool, true, false}
-use mathlib.Core.Option.{Option, none, some}
-use mathlib.Core.List.{List, _∷_, _++_}
-use Rattle.model.specs.Tree.{Tree, node, entries, cut, put, without, Ordered, Sorted, Is}
+use mathlib.Core.Bool.{false}
+use mathlib.Core.Option.{Option}
+use Rattle.model.specs.Tree.{Tree, node, entries, cut, Ordered}
 use Rattle.model.specs.Supply.{Supply, Make}
 use Rattle.model.specs.Rules.{balanced, insert, remove, join, split, union, difference}
 use Rattle.model.proofs.Entries.{Keeps, balanced-keeps, join-keeps, insert-entries}
 use Rattle.model.proofs.Edits.{remove-entries}
 use Rattle.model.proofs.Sorts.{ordered-sorted, sorted-ordered, sorted-join}
-use Rattle.model.proofs.Finds.{CutFacts, cut-facts, sorted-without}
-use Rattle.model.proofs.Unions.{SplitFacts, split-facts, union-is}
+use Rattle.model.proofs.Finds.{cut-facts, sorted-without}
+use Rattle.model.proofs.Unions.{split-facts, union-is}
 use Rattle.model.proofs.Differences.{difference-is}
 
 -- a make that keeps the entries of a node keeps its order

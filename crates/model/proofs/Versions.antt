@@ -1,21 +1,19 @@
 -- The versions of a sound heap: ordered, no larger than N; and union and difference of them by the number of their rule.
-use mathlib.Core.Path.{_≡_, refl, ap, sym, subst, _∙_}
+use mathlib.Core.Path.{_≡_, refl, sym, _∙_}
 use mathlib.Core.Logic.{_≢_}
-use Prim.Native.Nat.{ℕ, zero, suc, _+_, _<_, _≤_}
+use Prim.Native.Nat.{ℕ, zero, suc, _<_, _≤_}
 use mathlib.Core.Bool.{Bool, true, false, true≢false}
-use mathlib.Core.Option.{Option, none, some}
-use mathlib.Core.List.{List, [], _∷_}
+use mathlib.Core.Option.{none}
 use lib.ListN.{getD}
-use lib.Dec.{eqb, ltb}
 use borrow.Author.Tests.{eq-eqb, le-ltb}
 use native.Mathlib.Omega.{arith}
-use Rattle.model.specs.Tree.{Tree, leaf, size, entries, find, Ordered, both, less, Is}
+use Rattle.model.specs.Tree.{size, entries, find, Ordered, both, less, Is}
 use Rattle.model.specs.Supply.{Supply}
 use Rattle.model.specs.Rules.{union, difference, mergeBy, diffBy}
-use Rattle.model.specs.Heap.{Heap, Occupied, Named, load, tree, version, Linked, Sound, freeFrom, free, supply}
+use Rattle.model.specs.Heap.{Heap, Named, load, tree, version, Linked, Sound, freeFrom, supply}
 use Rattle.model.proofs.Loads.{tree-size}
 use Rattle.model.proofs.Bound.{size-room}
-use Rattle.model.proofs.Cancel.{Stands, Avoids, tree-stands, cancel-same}
+use Rattle.model.proofs.Cancel.{Avoids, tree-stands, cancel-same}
 use Rattle.model.proofs.Unions.{union-is}
 use Rattle.model.proofs.Differences.{difference-is}
 

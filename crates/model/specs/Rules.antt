@@ -10,6 +10,14 @@ use Rattle.model.specs.Supply.{Make, make, done, apart, _>>=_, _>>_}
 abbrev pub weight : Tree → ℕ
 weight t = size t + 1
 
+-- one side's weight is above 3 times the other's
+abbrev pub heavy : Tree → Tree → Bool
+heavy t u = ltb (3 * weight u) (weight t)
+
+-- the heavy child's inner weight is below 2 times its outer weight: rotate once
+abbrev pub once : Tree → Tree → Bool
+once inner outer = ltb (weight inner) (2 * weight outer)
+
 -- rotate twice: the middle tree's root goes to the top; where there is none (never reached) the right entry goes
 unfoldable pub twice : ℕ → ℕ → Tree → Tree → ℕ → ℕ → Tree → Make Tree
 twice k v l leaf h w r = do
@@ -21,12 +29,12 @@ twice k v l (node i g u x y) h w r = do
   b ← make h w y r
   make g u a b
 
--- right heavy: once if the right child's left weight is below twice its right weight, otherwise twice
+-- the right child goes to the top, or its left child does
 unfoldable pub rotateLeft : ℕ → ℕ → Tree → Tree → Make Tree
 rotateLeft k v l leaf = make k v l leaf
 rotateLeft k v l (node i h w rl rr) = do
   apart i
-  elim (ltb (weight rl) (2 * weight rr)) [
+  elim (once rl rr) [
     | true ↦ do
       a ← make k v l rl
       make h w a rr
@@ -38,7 +46,7 @@ unfoldable pub rotateRight : ℕ → ℕ → Tree → Tree → Make Tree
 rotateRight k v leaf r = make k v leaf r
 rotateRight k v (node i h w ll lr) r = do
   apart i
-  elim (ltb (weight lr) (2 * weight ll)) [
+  elim (once lr ll) [
     | true ↦ do
       a ← make k v lr r
       make h w ll a
@@ -49,9 +57,9 @@ rotateRight k v (node i h w ll lr) r = do
 unfoldable pub balanced : ℕ → ℕ → Tree → Tree → Make Tree
 balanced k v l r = elim (ltb (size l + size r) 2) [
   | true ↦ make k v l r
-  | false ↦ elim (ltb (3 * weight l) (weight r)) [
+  | false ↦ elim (heavy r l) [
     | true ↦ rotateLeft k v l r
-    | false ↦ elim (ltb (3 * weight r) (weight l)) [
+    | false ↦ elim (heavy l r) [
       | true ↦ rotateRight k v l r
       | false ↦ make k v l r
     ]
@@ -120,7 +128,11 @@ removePresent (node i h w l r) k = do
 unfoldable pub remove : Tree → ℕ → Make Tree
 remove t k = elim (lookup t k) [ none ↦ done t | some w ↦ removePresent t k ]
 
--- compares sizes, not weights
+-- one side's size, not weight, is above 3 times the other's
+abbrev pub larger : Tree → Tree → Bool
+larger t u = ltb (3 * size u) (size t)
+
+-- the larger side's inner spine is descended; each level on the way back is a balanced make
 unfoldable pub join : ℕ → ℕ → Tree → Tree → Make Tree
 join k v leaf leaf = balanced k v leaf leaf
 join k v leaf (node j h w rl rr) = do
@@ -132,12 +144,12 @@ join k v (node i h w ll lr) leaf = do
   r′ ← join k v lr leaf
   balanced h w ll r′
 join k v (node i h w ll lr) (node j g u rl rr) =
-    elim (ltb (3 * size (node i h w ll lr)) (size (node j g u rl rr))) [
+    elim (larger (node j g u rl rr) (node i h w ll lr)) [
       | true ↦ do
         apart j
         l′ ← join k v (node i h w ll lr) rl
         balanced g u l′ rr
-      | false ↦ elim (ltb (3 * size (node j g u rl rr)) (size (node i h w ll lr))) [
+      | false ↦ elim (larger (node i h w ll lr) (node j g u rl rr)) [
         | true ↦ do
           apart i
           r′ ← join k v lr (node j g u rl rr)
