@@ -20,3 +20,4 @@ pub mod Lists
 pub mod Giveups
 pub mod Wipes
 pub mod Growing
+pub mod Turns
