@@ -21,3 +21,5 @@ pub mod Giveups
 pub mod Wipes
 pub mod Growing
 pub mod Turns
+pub mod Rows
+pub mod Listings

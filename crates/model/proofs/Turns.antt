@@ -1,24 +1,24 @@
 -- The walk ends, and it is too deep exactly when its loop at some turn is.
-use mathlib.Core.Path.{_≡_, refl, ap, ap₂, sym, subst, _∙_}
+use mathlib.Core.Path.{_≡_, refl, ap, sym, _∙_}
 use mathlib.Core.Logic.{_↔_}
 use Prim.Native.Nat.{ℕ, zero, suc, _+_, _*_, _≤_, _<_, compare, Ordering, Ordering·lt, Ordering·eq, Ordering·gt}
-use mathlib.Core.Bool.{Bool, true, false, true≢false, _||_}
+use mathlib.Core.Bool.{Bool, true, false, true≢false}
 use mathlib.Core.List.{List, [], _∷_}
 use lib.ListN.{length}
 use lib.Dec.{eqb, ltb, leb}
-use borrow.Author.Tests.{ltb-true, ltb-false, le-ltb, eq-eqb}
+use borrow.Author.Tests.{ltb-false, le-ltb, eq-eqb}
 use native.Mathlib.Omega.{arith}
 use Rattle.model.specs.Tree.{Tree, leaf, node, size, idOf}
-use Rattle.model.specs.Listing.{Item, tree, entry, Sides, Row, Turn, over, on, yield, Walk, pend, opened, turn, tooDeep, walk, start, turns, listing, next, after}
+use Rattle.model.specs.Listing.{Item, tree, entry, Sides, Turn, over, on, yield, Walk, pend, opened, turn, tooDeep, walk, start, turns, listing, next, after}
 
 -- the turns that a side can take: two for each node of a tree, one for an entry
-cost : List Item → ℕ
+unfoldable pub cost : List Item → ℕ
 cost [] = 0
 cost (tree leaf ∷ is) = 1 + cost is
 cost (tree (node i k v l r) ∷ is) = 2 * size (node i k v l r) + cost is
 cost (entry k v ∷ is) = 1 + cost is
 
-costs : Sides → ℕ
+unfoldable pub costs : Sides → ℕ
 costs s = cost (s .left) + cost (s .right)
 
 cost-pend : (t : Tree) (is : List Item) → cost (pend t is) ≡ 2 * size t + cost is
@@ -37,12 +37,12 @@ cost-rest leaf is = omega arith
 cost-rest (node i k v l r) is = omega arith
 
 -- a turn lowers the cost, and a row leaves no more pending than there was
-Falls : Sides → Turn → Type 0
+unfoldable pub Falls : Sides → Turn → Type 0
 Falls s over = Unit {0}
 Falls s (on t) = costs t < costs s
 Falls s (yield r t) = (costs t < costs s) × (length (t .left) ≤ length (s .left)) × (length (t .right) ≤ length (s .right))
 
-turn-falls : (ls rs : List Item) → Falls (record { left = ls; right = rs }) (turn ls rs)
+pub turn-falls : (ls rs : List Item) → Falls (record { left = ls; right = rs }) (turn ls rs)
 unfolding Falls costs turn cost
 turn-falls [] rs = tt
 turn-falls (tree t ∷ ls) [] = omega (arith, cost-opened t ls)
@@ -92,7 +92,7 @@ walk-enough (suc f) (suc g) s p q = go (turn (s .left) (s .right)) refl (turn-fa
     go (on t) e c ih = rw (e, walk) (ap (λ (w : Walk). elim (tooDeep t) [ true ↦ record { rows = []; deep = true } | false ↦ w ]) (ih t (omega arith) (omega arith)))
     go (yield r t) e c ih = rw (e, walk) (rw (ih t (omega (arith, c .0)) (omega (arith, c .0))))
 
-costs-start : (a b : Tree) → costs (start a b) ≤ turns a b
+pub costs-start : (a b : Tree) → costs (start a b) ≤ turns a b
 unfolding costs cost
 costs-start a b = omega (arith, cost-pend a [], cost-pend b [])
 
