@@ -23,3 +23,5 @@ pub mod Growing
 pub mod Turns
 pub mod Rows
 pub mod Listings
+pub mod Members
+pub mod Deltas

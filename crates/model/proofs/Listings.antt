@@ -160,15 +160,19 @@ module _ (h : Heap) (L : Linked h) where
   unfolding Standing spread
   side-start t g o = record { stands = standing-pend t [] g tt; sorted = rw (spread-pend t [], append-nil (entries t)) (ordered-sorted t o) }
 
-  -- a listing that is not too deep lists what document 01 says, of two ordered trees of one heap
-  pub listing-listed : (a b : Tree) → Stands h L a → Stands h L b → Ordered a → Ordered b → listing a b .deep ≡ false → Listed (find (entries a)) (find (entries b)) (listing a b .rows)
-  unfolding listing spread
-  listing-listed a b ga gb oa ob d =
-      rw (spread-pend a [], spread-pend b [], append-nil (entries a), append-nil (entries b)) at
-      (walk-listed (turns a b) (start a b) (costs-start a b) (side-start a ga oa) (side-start b gb ob) d)
+-- two ordered trees of one heap
+pub record OneHeap (a b : Tree) : Type 0 where
+  pub heap : Heap
+  pub linked : Linked heap
+  pub stands-left : Stands heap linked a
+  pub stands-right : Stands heap linked b
+  pub ordered-left : Ordered a
+  pub ordered-right : Ordered b
 
--- the tree of a version is ordered
-pub version-ordered : (h : Heap) → Sound h → (v : ℕ) → v < 16 → Ordered (version h v)
+pub turned : (a b : Tree) → OneHeap a b → OneHeap b a
+turned a b O = record { heap = O .heap; linked = O .linked; stands-left = O .stands-right; stands-right = O .stands-left; ordered-left = O .ordered-right; ordered-right = O .ordered-left }
+
+version-ordered : (h : Heap) → Sound h → (v : ℕ) → v < 16 → Ordered (version h v)
 unfolding H.tree load Ordered
 version-ordered h S v lt = go (h .root v) (S .kept .linked .roots v lt)
   where
@@ -176,8 +180,30 @@ version-ordered h S v lt = go (h .root v) (S .kept .linked .roots v lt)
     go zero o = tt
     go (suc n) o = S .ordered (suc n) o
 
--- so it does of any two versions of a sound heap
-pub versions-listed : (h : Heap) → Sound h → (v w : ℕ) → v < 16 → w < 16 → listing (version h v) (version h w) .deep ≡ false → Listed (find (entries (version h v))) (find (entries (version h w))) (listing (version h v) (version h w) .rows)
-versions-listed h S v w p q =
+-- any two versions of a sound heap are such trees
+pub versions-one-heap : (h : Heap) → Sound h → (v w : ℕ) → v < 16 → w < 16 → OneHeap (version h v) (version h w)
+versions-one-heap h S v w p q =
     let L = S .kept .linked in
-    listing-listed h L (version h v) (version h w) (tree-stands h L (h .root v) (L .roots v p)) (tree-stands h L (h .root w) (L .roots w q)) (version-ordered h S v p) (version-ordered h S w q)
+    record {
+      heap = h;
+      linked = L;
+      stands-left = tree-stands h L (h .root v) (L .roots v p);
+      stands-right = tree-stands h L (h .root w) (L .roots w q);
+      ordered-left = version-ordered h S v p;
+      ordered-right = version-ordered h S w q;
+    }
+
+-- The theorems
+
+-- a listing that is not too deep: rows ascend strictly, each is right, and a key without a row has the same value on the right
+pub listing-listed : (a b : Tree) → OneHeap a b → listing a b .deep ≡ false → Listed (find (entries a)) (find (entries b)) (listing a b .rows)
+unfolding listing spread
+listing-listed a b O d =
+    rw (spread-pend a [], spread-pend b [], append-nil (entries a), append-nil (entries b)) at
+    (walk-listed (O .heap) (O .linked) (turns a b) (start a b) (costs-start a b)
+    (side-start (O .heap) (O .linked) a (O .stands-left) (O .ordered-left))
+    (side-start (O .heap) (O .linked) b (O .stands-right) (O .ordered-right)) d)
+
+-- the same of two versions of a sound heap
+pub versions-listed : (h : Heap) → Sound h → (v w : ℕ) → v < 16 → w < 16 → listing (version h v) (version h w) .deep ≡ false → Listed (find (entries (version h v))) (find (entries (version h w))) (listing (version h v) (version h w) .rows)
+versions-listed h S v w p q = listing-listed (version h v) (version h w) (versions-one-heap h S v w p q)

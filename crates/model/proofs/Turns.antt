@@ -2,7 +2,7 @@
 use mathlib.Core.Path.{_≡_, refl, ap, sym, _∙_}
 use mathlib.Core.Logic.{_↔_}
 use Prim.Native.Nat.{ℕ, zero, suc, _+_, _*_, _≤_, _<_, compare, Ordering, Ordering·lt, Ordering·eq, Ordering·gt}
-use mathlib.Core.Bool.{Bool, true, false, true≢false}
+use mathlib.Core.Bool.{Bool, true, false, true≢false, _||_}
 use mathlib.Core.List.{List, [], _∷_}
 use lib.ListN.{length}
 use lib.Dec.{eqb, ltb, leb}
@@ -98,19 +98,17 @@ costs-start a b = omega (arith, cost-pend a [], cost-pend b [])
 
 -- When it is too deep
 
-shallow : (s : Sides) → tooDeep s ≡ false → (length (s .left) ≤ 64) × (length (s .right) ≤ 64)
-unfolding tooDeep
-shallow s e = go (ltb 64 (length (s .left))) refl
-  where
-    go : (b : Bool) → ltb 64 (length (s .left)) ≡ b → (length (s .left) ≤ 64) × (length (s .right) ≤ 64)
-    go true p = absurd (true≢false (rw (p, tooDeep) at e))
-    go false p = (ltb-false 64 (length (s .left)) p, ltb-false 64 (length (s .right)) (rw (p, tooDeep) at e))
+pub neither : (x y : Bool) → (x || y) ≡ false → (x ≡ false) × (y ≡ false)
+neither true y e = absurd (true≢false e)
+neither false y e = (refl, e)
 
 shallow-yield : (s t : Sides) → length (t .left) ≤ length (s .left) → length (t .right) ≤ length (s .right) → tooDeep s ≡ false → tooDeep t ≡ false
 unfolding tooDeep
 shallow-yield s t p q e =
-    let w = shallow s e in
-    rw (le-ltb 64 (length (t .left)) (omega (arith, w .0)), le-ltb 64 (length (t .right)) (omega (arith, w .1)), tooDeep)
+    let w = neither (ltb 64 (length (s .left))) (ltb 64 (length (s .right))) e in
+    let l : length (t .left) ≤ 64 = omega (arith, ltb-false 64 (length (s .left)) (w .0)) in
+    let r : length (t .right) ≤ 64 = omega (arith, ltb-false 64 (length (s .right)) (w .1)) in
+    rw (le-ltb 64 (length (t .left)) l, le-ltb 64 (length (t .right)) r, tooDeep)
 
 shallow-start : (a b : Tree) → tooDeep (start a b) ≡ false
 unfolding tooDeep
