@@ -25,3 +25,4 @@ pub mod Rows
 pub mod Listings
 pub mod Members
 pub mod Deltas
+pub mod DeltaRoom
