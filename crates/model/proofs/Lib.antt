@@ -24,5 +24,6 @@ pub mod Turns
 pub mod Rows
 pub mod Listings
 pub mod Members
+pub mod Picks
 pub mod Deltas
 pub mod DeltaRoom
