@@ -115,7 +115,11 @@ module _ (h : Heap) (L : Linked h) where
           let q : u ≡ t = stands-known h L u (r .stands .0) ∙ sym (ap (H.tree h) (eqb-true (idOf t) (idOf u) e)) ∙ sym (stands-known h L t (l .stands .0)) in
           rw (e, turn) (record { left = side-rest t ls l; right = side-rest u rs r; listed = λ rows I. rw q (skip-listed (entries t) (spread ls) (spread rs) rows (l .sorted) I) })
       same false e = larger (leb (size u) (size t)) refl e
-  turn-tells (entry k v ∷ ls) [] l r = record { left = side-next k v ls l; right = r; listed = λ rows. yield-listed k v none (spread ls) (find []) (find []) rows (l .sorted .0) refl (λ j p. refl) }
+  turn-tells (entry k v ∷ ls) [] l r = record {
+    left = side-next k v ls l;
+    right = r;
+    listed = λ rows. yield-listed k v none (spread ls) (find []) (find []) rows (l .sorted .0) refl (λ j p. refl);
+  }
   turn-tells (entry k v ∷ ls) (tree u ∷ rs) l r = open-right u (entry k v ∷ ls) rs l r
   turn-tells (entry k v ∷ ls) (entry j w ∷ rs) l r = go (compare k j) refl
     where
@@ -126,15 +130,28 @@ module _ (h : Heap) (L : Linked h) where
       go Ordering·lt e =
           let p = cmp-lt k j e in
           let n : find ys k ≡ none = above-none ys k k (p, allAbove-trans k j (spread rs) p (r .sorted .0)) (omega arith) in
-          rw (e, turn) (record { left = side-next k v ls l; right = r; listed = λ rows. yield-listed k v none (spread ls) (find ys) (find ys) rows (l .sorted .0) n (λ i q. refl) })
+          rw (e, turn) (record {
+            left = side-next k v ls l;
+            right = r;
+            listed = λ rows. yield-listed k v none (spread ls) (find ys) (find ys) rows (l .sorted .0) n (λ i q. refl);
+          })
       go Ordering·eq e =
           let p = cmp-eq k j e in
           let f : find ys k ≡ some w = ap (find ys) p ∙ found-first (j, w) (spread rs) in
-          rw (e, turn) (record { left = side-next k v ls l; right = side-next j w rs r; listed = λ rows. yield-listed k v (some w) (spread ls) (find (spread rs)) (find ys) rows (l .sorted .0) f (λ i q. sym (past (j, w) (spread rs) i (omega arith))) })
+          let later : (i : ℕ) → k < i → find ys i ≡ find (spread rs) i = λ i q. sym (past (j, w) (spread rs) i (omega arith)) in
+          rw (e, turn) (record {
+            left = side-next k v ls l;
+            right = side-next j w rs r;
+            listed = λ rows. yield-listed k v (some w) (spread ls) (find (spread rs)) (find ys) rows (l .sorted .0) f later;
+          })
       go Ordering·gt e =
           let p = cmp-gt k j e in
           let a : AllAbove j ((k, v) ∷ spread ls) = (p, allAbove-trans j k (spread ls) p (l .sorted .0)) in
-          rw (e, turn) (record { left = l; right = side-next j w rs r; listed = λ rows. swap-listed (find ((k, v) ∷ spread ls)) (find (spread rs)) (find ys) rows (λ i x q. sym (past (j, w) (spread rs) i (found-above ((k, v) ∷ spread ls) j i x a q))) })
+          rw (e, turn) (record {
+            left = l;
+            right = side-next j w rs r;
+            listed = λ rows. swap-listed (find ((k, v) ∷ spread ls)) (find (spread rs)) (find ys) rows (λ i x q. sym (past (j, w) (spread rs) i (found-above ((k, v) ∷ spread ls) j i x a q)));
+          })
 
   walk-listed : (f : ℕ) (s : Sides) → costs s ≤ f → Side (s .left) → Side (s .right) → walk f s .deep ≡ false → Lists s (walk f s .rows)
   unfolding walk Falls Tells
@@ -205,5 +222,6 @@ listing-listed a b O d =
     (side-start (O .heap) (O .linked) b (O .stands-right) (O .ordered-right)) d)
 
 -- the same of two versions of a sound heap
-pub versions-listed : (h : Heap) → Sound h → (v w : ℕ) → v < 16 → w < 16 → listing (version h v) (version h w) .deep ≡ false → Listed (find (entries (version h v))) (find (entries (version h w))) (listing (version h v) (version h w) .rows)
+pub versions-listed : (h : Heap) → Sound h → (v w : ℕ) → v < 16 → w < 16 → listing (version h v) (version h w) .deep ≡ false
+    → Listed (find (entries (version h v))) (find (entries (version h w))) (listing (version h v) (version h w) .rows)
 versions-listed h S v w p q = listing-listed (version h v) (version h w) (versions-one-heap h S v w p q)

@@ -30,7 +30,8 @@ picks-skip pick r rows cs n P = record { from = λ c m. let w = P .from c m in (
     into q c (inl e) p = let z : _≡_ {A = ℕ} 0 1 = cc (ap pick e, n, p) in absurd (omega arith)
     into q c (inr m) p = P .into q c m p
 
-picks-take : (pick : Row → Option Change) (r : Row) (c : Change) (rows : List Row) (cs : List Change) → pick r ≡ some c → c .key ≡ r .key → Picks pick rows cs → Picks pick (r ∷ rows) (c ∷ cs)
+picks-take : (pick : Row → Option Change) (r : Row) (c : Change) (rows : List Row) (cs : List Change)
+    → pick r ≡ some c → c .key ≡ r .key → Picks pick rows cs → Picks pick (r ∷ rows) (c ∷ cs)
 unfolding _∈_ Ascending
 picks-take pick r c rows cs e k P = record { from = from; into = into; ascends = λ a. (λ d m. let w = P .from d m in omega (arith, a .0 (w .0) (w .1), w .3), P .ascends (a .1)) }
   where
@@ -80,7 +81,10 @@ changed-exactly r = go (r .right) refl
   where
     go : (o : Option ℕ) → r .right ≡ o → (changed r ≡ true) ↔ (r .right ≢ some (r .left))
     go none e = (λ c p. let z : _≡_ {A = ℕ} 0 1 = cc (e, p) in omega arith, λ n. rw (e, changed))
-    go (some w) e = (λ c p. let z : w ≡ r .left = cc (e, p) in eqb-false (r .left) w (not-true (eqb (r .left) w) (rw (e, changed) at c)) (sym z), λ n. rw (e, changed) (by n (eqb (r .left) w) refl))
+    go (some w) e = (
+      λ c p. let z : w ≡ r .left = cc (e, p) in eqb-false (r .left) w (not-true (eqb (r .left) w) (rw (e, changed) at c)) (sym z),
+      λ n. rw (e, changed) (by n (eqb (r .left) w) refl),
+    )
       where
         by : r .right ≢ some (r .left) → (b : Bool) → eqb (r .left) w ≡ b → not (eqb (r .left) w) ≡ true
         by n true q = absurd (n (e ∙ ap some (sym (eqb-true (r .left) w q))))

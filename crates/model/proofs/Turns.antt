@@ -9,7 +9,7 @@ use lib.Dec.{eqb, ltb, leb}
 use borrow.Author.Tests.{ltb-false, le-ltb, eq-eqb}
 use native.Mathlib.Omega.{arith}
 use Rattle.model.specs.Tree.{Tree, leaf, node, size, idOf}
-use Rattle.model.specs.Listing.{Item, tree, entry, Sides, Turn, over, on, yield, Walk, pend, opened, turn, tooDeep, walk, start, turns, listing, next, after}
+use Rattle.model.specs.Listing.{Item, tree, entry, Sides, Turn, over, on, yield, Walk, pend, opened, turn, tooDeep, walk, start, turns, listing, nextSides, after}
 
 -- the turns that a side can take: two for each node of a tree, one for an entry
 unfoldable pub cost : List Item → ℕ
@@ -118,7 +118,7 @@ shallow-start (node i k v l r) leaf = refl
 shallow-start (node i k v l r) (node j h w x y) = refl
 
 deep-reached : (f : ℕ) (s : Sides) → walk f s .deep ≡ true → (n : ℕ) × (tooDeep (after n s) ≡ true)
-unfolding walk after next
+unfolding walk after nextSides
 deep-reached zero s d = absurd (true≢false (sym d))
 deep-reached (suc f) s d = go (turn (s .left) (s .right)) refl (deep-reached f)
   where
@@ -127,26 +127,26 @@ deep-reached (suc f) s d = go (turn (s .left) (s .right)) refl (deep-reached f)
     go (on t) e ih = by (tooDeep t) refl
       where
         by : (b : Bool) → tooDeep t ≡ b → (n : ℕ) × (tooDeep (after n s) ≡ true)
-        by true p = (1, rw (e, next) p)
-        by false p = let w = ih t (rw p at (rw (e, walk) at d)) in (suc (w .0), rw (e, next) (w .1))
-    go (yield r t) e ih = let w = ih t (rw (e, walk) at d) in (suc (w .0), rw (e, next) (w .1))
+        by true p = (1, rw (e, nextSides) p)
+        by false p = let w = ih t (rw p at (rw (e, walk) at d)) in (suc (w .0), rw (e, nextSides) (w .1))
+    go (yield r t) e ih = let w = ih t (rw (e, walk) at d) in (suc (w .0), rw (e, nextSides) (w .1))
 
 reached-deep : (n f : ℕ) (s : Sides) → costs s ≤ f → tooDeep s ≡ false → tooDeep (after n s) ≡ true → walk f s .deep ≡ true
-unfolding walk after next Falls
+unfolding walk after nextSides Falls
 reached-deep zero f s c e d = absurd (true≢false (sym d ∙ e))
 reached-deep (suc n) f s c e d = go (turn (s .left) (s .right)) refl (turn-falls (s .left) (s .right)) f c (reached-deep n)
   where
     go : (o : Turn) → turn (s .left) (s .right) ≡ o → Falls s o → (f : ℕ) → costs s ≤ f
         → ((f : ℕ) (t : Sides) → costs t ≤ f → tooDeep t ≡ false → tooDeep (after n t) ≡ true → walk f t .deep ≡ true) → walk f s .deep ≡ true
-    go over p q f c ih = ih f s c e (rw (p, next) at d)
+    go over p q f c ih = ih f s c e (rw (p, nextSides) at d)
     go (on t) p q zero c ih = absurd (omega arith)
     go (on t) p q (suc f) c ih = by (tooDeep t) refl
       where
         by : (b : Bool) → tooDeep t ≡ b → walk (suc f) s .deep ≡ true
         by true z = rw (p, walk) (rw z)
-        by false z = rw (p, walk) (rw z (ih f t (omega arith) z (rw (p, next) at d)))
+        by false z = rw (p, walk) (rw z (ih f t (omega arith) z (rw (p, nextSides) at d)))
     go (yield r t) p q zero c ih = absurd (omega (arith, q .0))
-    go (yield r t) p q (suc f) c ih = rw (p, walk) (ih f t (omega (arith, q .0)) (shallow-yield s t (q .1) (q .2) e) (rw (p, next) at d))
+    go (yield r t) p q (suc f) c ih = rw (p, walk) (ih f t (omega (arith, q .0)) (shallow-yield s t (q .1) (q .2) e) (rw (p, nextSides) at d))
 
 -- The theorems
 

@@ -92,13 +92,13 @@ unfoldable pub listing : Tree → Tree → Walk
 listing a b = walk (turns a b) (start a b)
 
 -- the sides after one turn; a loop that is over stays as it is
-unfoldable pub next : Sides → Sides
-next s = elim (turn (s .left) (s .right)) [ over ↦ s | on t ↦ t | yield r t ↦ t ]
+unfoldable pub nextSides : Sides → Sides
+nextSides s = elim (turn (s .left) (s .right)) [ over ↦ s | on t ↦ t | yield r t ↦ t ]
 
 -- the sides after n turns, with no limit on what is pending
 unfoldable pub after : ℕ → Sides → Sides
 after zero s = s
-after (suc n) s = after n (next s)
+after (suc n) s = after n (nextSides s)
 
 -- What is said of a listing.
 
