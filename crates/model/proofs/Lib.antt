@@ -26,3 +26,11 @@ pub mod Giveups
 pub mod Wipes
 pub mod Steady
 pub mod Growing
+pub mod Turns
+pub mod Rows
+pub mod Listings
+pub mod Members
+pub mod Picks
+pub mod Deltas
+pub mod Held
+pub mod DeltaRoom

@@ -1,6 +1,6 @@
 -- The delta from one tree to another.
 use mathlib.Core.Path.{_≡_}
-use mathlib.Core.Logic.{_⊎_}
+use mathlib.Core.Logic.{_≢_, _⊎_}
 use Prim.Native.Nat.{ℕ, _<_}
 use mathlib.Core.Bool.{Bool, true, false, not, _||_}
 use mathlib.Core.Option.{Option, none, some}
@@ -8,7 +8,7 @@ use mathlib.Core.List.{List, [], _∷_, _++_}
 use lib.ListN.{length, getD}
 use lib.Dec.{eqb}
 use Rattle.model.specs.Tree.{Tree}
-use Rattle.model.specs.Listing.{Row, listing}
+use Rattle.model.specs.Listing.{Row, listing, _∈_, Ascending}
 
 -- a key and what it is set to: a value (a put) or nothing (a remove)
 pub record Change : Type 0 where
@@ -45,3 +45,17 @@ changeAt cs i = getD cs i (record { key = 0; now = none })
 pub record Carries (A B : ℕ → Option ℕ) (cs : List Change) : Type 0 where
   pub right : (i : ℕ) → i < length cs → changeAt cs i .now ≡ B (changeAt cs i .key)
   pub whole : (k : ℕ) → (A k ≡ B k) ⊎ ((i : ℕ) × (i < length cs) × (changeAt cs i .key ≡ k))
+
+-- no key twice
+unfoldable pub Distinct : {A : Type 0} → (A → ℕ) → List A → Type 0
+Distinct key [] = Unit {0}
+Distinct {A} key (x ∷ xs) = ((y : A) → y ∈ xs → key x ≢ key y) × Distinct key xs
+
+-- puts, ascending, for the keys of B absent from A or with another value there; removes, ascending, for the keys of A absent from B; and no others
+pub record Exact (A B : ℕ → Option ℕ) (ps rs : List Change) : Type 0 where
+  pub puts-ascend : Ascending (λ (c : Change). c .key) ps
+  pub put : (c : Change) → c ∈ ps → (v : ℕ) × (c .now ≡ some v) × (B (c .key) ≡ some v) × (A (c .key) ≢ some v)
+  pub all-puts : (k v : ℕ) → B k ≡ some v → A k ≢ some v → (c : Change) × (c ∈ ps) × (c .key ≡ k)
+  pub removes-ascend : Ascending (λ (c : Change). c .key) rs
+  pub remove : (c : Change) → c ∈ rs → (v : ℕ) × (c .now ≡ none) × (A (c .key) ≡ some v) × (B (c .key) ≡ none)
+  pub all-removes : (k v : ℕ) → A k ≡ some v → B k ≡ none → (c : Change) × (c ∈ rs) × (c .key ≡ k)

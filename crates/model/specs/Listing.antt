@@ -1,5 +1,7 @@
 -- The listing of one tree against another: 001's loop.
-use Prim.Native.Nat.{ℕ, zero, suc, _+_, _*_, compare, Ordering, Ordering·lt, Ordering·eq, Ordering·gt}
+use mathlib.Core.Path.{_≡_}
+use mathlib.Core.Logic.{_⊎_}
+use Prim.Native.Nat.{ℕ, zero, suc, _+_, _*_, _<_, compare, Ordering·lt, Ordering·eq, Ordering·gt}
 use mathlib.Core.Bool.{Bool, true, false, _||_}
 use mathlib.Core.Option.{Option, none, some}
 use mathlib.Core.List.{List, [], _∷_}
@@ -88,3 +90,31 @@ turns a b = 2 * (size a + size b) + 1
 -- the listing of a against b
 unfoldable pub listing : Tree → Tree → Walk
 listing a b = walk (turns a b) (start a b)
+
+-- the sides after one turn; a loop that is over stays as it is
+unfoldable pub nextSides : Sides → Sides
+nextSides s = elim (turn (s .left) (s .right)) [ over ↦ s | on t ↦ t | yield r t ↦ t ]
+
+-- the sides after n turns, with no limit on what is pending
+unfoldable pub after : ℕ → Sides → Sides
+after zero s = s
+after (suc n) s = after n (nextSides s)
+
+-- What is said of a listing.
+
+-- x stands in the list
+infix 4 _∈_
+unfoldable pub _∈_ : {A : Type 0} → A → List A → Type 0
+x ∈ [] = ⊥
+x ∈ (y ∷ ys) = (x ≡ y) ⊎ (x ∈ ys)
+
+-- keys ascend strictly
+unfoldable pub Ascending : {A : Type 0} → (A → ℕ) → List A → Type 0
+Ascending key [] = Unit {0}
+Ascending {A} key (x ∷ xs) = ((y : A) → y ∈ xs → key x < key y) × Ascending key xs
+
+-- rows of the map A against the map B, strictly ascending: each has A's value and what B holds there; a key of A that has no row has the same value in B
+pub record Listed (A B : ℕ → Option ℕ) (rows : List Row) : Type 0 where
+  pub ascends : Ascending (λ (r : Row). r .key) rows
+  pub right : (r : Row) → r ∈ rows → (A (r .key) ≡ some (r .left)) × (B (r .key) ≡ r .right)
+  pub whole : (k v : ℕ) → A k ≡ some v → (B k ≡ some v) ⊎ ((r : Row) × (r ∈ rows) × (r .key ≡ k))
