@@ -15,7 +15,7 @@ use Rattle.model.proofs.Compare.{cmp-eq}
 use Rattle.model.proofs.Listings.{versions-one-heap, versions-listed}
 use Rattle.model.proofs.Members.{ascending-distinct}
 use Rattle.model.proofs.Deltas.{delta-once, delta-keys}
-use Rattle.model.proofs.Held.{distinct-most, Held, entry-held}
+use Rattle.model.proofs.Bound.{distinct-most, Held, entry-held}
 
 -- what is found stands in the list
 find-in : (es : List Entry) (k v : ℕ) → find es k ≡ some v → (k, v) ∈ es

@@ -12,7 +12,7 @@ use Rattle.model.specs.Tree.{Tree, find, entries}
 use Rattle.model.specs.Listing.{listing, _∈_}
 use Rattle.model.specs.Delta.{Change, puts, removes, delta, deltaDeep, changeAt, Carries, Distinct, Exact}
 use Rattle.model.proofs.Turns.{neither}
-use Rattle.model.proofs.Lists.{sorted-ext}
+use Rattle.model.proofs.Finds.{sorted-ext}
 use Rattle.model.proofs.Sorts.{ordered-sorted}
 use Rattle.model.proofs.Listings.{OneHeap, turned, listing-listed}
 use Rattle.model.proofs.Members.{in-at, at-in, in-left, in-right, in-either, none-in, ascending-distinct, distinct-append}

@@ -32,5 +32,4 @@ pub mod Listings
 pub mod Members
 pub mod Picks
 pub mod Deltas
-pub mod Held
 pub mod DeltaRoom

@@ -13,7 +13,7 @@ use Rattle.model.specs.Heap.{Heap, Named, version, load, Linked, Sound}
 use Rattle.model.specs.Heap as H
 use Rattle.model.proofs.Cancel.{Stands, stands-left, stands-right, stands-known, tree-stands}
 use Rattle.model.proofs.Compare.{cmp-lt, cmp-eq, cmp-gt}
-use Rattle.model.proofs.Unions.{above-none, past, found-first}
+use Rattle.model.proofs.Finds.{above-none, past, found-first}
 use Rattle.model.proofs.Sorts.{allAbove-trans, ordered-sorted}
 use Rattle.model.proofs.Turns.{costs, turn-falls, Falls, costs-start}
 use Rattle.model.proofs.Rows.{found-above, nil-listed, swap-listed, yield-listed, skip-listed}

@@ -9,7 +9,7 @@ use native.Mathlib.Decide.{ℕ-discrete, decLt}
 use Rattle.model.specs.Tree.{Entry, cut, find, AllAbove, Sorted}
 use Rattle.model.specs.Listing.{Row, _∈_, Ascending, Listed}
 use Rattle.model.proofs.Compare.{cmp-eq, cmp-gt}
-use Rattle.model.proofs.Unions.{above-none, past, found-first}
+use Rattle.model.proofs.Finds.{above-none, past, found-first}
 
 -- what is found lies above every bound of the list
 pub found-above : (xs : List Entry) (k j v : ℕ) → AllAbove k xs → find xs j ≡ some v → k < j
