@@ -20,3 +20,6 @@ pub mod Lists
 pub mod Giveups
 pub mod Wipes
 pub mod Growing
+pub mod Tests
+pub mod Maps
+pub mod Digits
