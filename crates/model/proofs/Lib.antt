@@ -23,3 +23,4 @@ pub mod Growing
 pub mod Tests
 pub mod Maps
 pub mod Digits
+pub mod Lines

@@ -1,5 +1,5 @@
 -- Frame lines.
-use Prim.Native.Nat.{ℕ, zero, suc, _+_, _-_, _*_, _/_, _%_}
+use Prim.Native.Nat.{ℕ, zero, suc, _+_, _-_, _*_, _/_, _%_, _^_, _<_}
 use mathlib.Core.Bool.{Bool, true, false, _&&_, _||_}
 use mathlib.Core.Option.{Option, none, some}
 use mathlib.Core.List.{List, [], _∷_, _++_}
@@ -58,6 +58,12 @@ kindLegal f = elim (f .kind) [
 -- count is 1 to 4,096, index below count, and the kind's rule holds
 unfoldable pub legal : Frame → Bool
 legal f = leb 1 (f .count) && leb (f .count) 4096 && ltb (f .index) (f .count) && kindLegal f
+
+-- batch, key and value are any that fit eight digits
+pub record Fitting (f : Frame) : Type 0 where
+  pub batch : f .batch < 2 ^ 32
+  pub key : f .key < 2 ^ 32
+  pub value : f .value < 2 ^ 32
 
 -- the number in k digits of the line from place `at` on
 abbrev pub field : List ℕ → ℕ → ℕ → Option ℕ
