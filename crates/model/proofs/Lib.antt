@@ -24,3 +24,4 @@ pub mod Tests
 pub mod Maps
 pub mod Digits
 pub mod Lines
+pub mod Frames

@@ -110,6 +110,10 @@ unfoldable pub framesOf : ℕ → List Change → List Frame
 framesOf batch [] = nothing batch ∷ []
 framesOf batch (c ∷ cs) = numbered batch (length (c ∷ cs)) 0 (c ∷ cs)
 
+-- frame i of the list
+abbrev pub frameAt : List Frame → ℕ → Frame
+frameAt fs i = getD fs i (nothing 0)
+
 -- the frames that carry a to b
 abbrev pub frames : ℕ → Tree → Tree → List Frame
 frames batch a b = framesOf batch (delta a b)
