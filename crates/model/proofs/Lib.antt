@@ -25,3 +25,5 @@ pub mod Maps
 pub mod Digits
 pub mod Lines
 pub mod Frames
+pub mod Heard
+pub mod Missing
