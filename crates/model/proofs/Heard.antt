@@ -67,11 +67,17 @@ bit-room (suc k) zero w h f e = omega (arith, pow-suc 2 k, bit-zero w)
 bit-room (suc k) (suc j) w h f e =
     omega (arith, pow-suc 2 k, pow-suc 2 j, bit-room k j (w / 2) (omega arith) (omega (arith, pow-suc 2 k)) (sym (bit-suc w j) ∙ e))
 
--- an index below count, not heard before, is marked; the count was unknown or the same
-module _ (x : List ℕ) (S : SoundInbox x) (count index : ℕ) (small : count ≤ 4096) (below : index < count)
-    (counts : (countOf x ≡ 0) ⊎ (countOf x ≡ count)) (new : heardAt x index ≡ false) where
+-- an index below count, not heard before; the count was unknown or the same
+pub record Markable (x : List ℕ) (count index : ℕ) : Type 0 where
+  pub sound : SoundInbox x
+  pub small : count ≤ 4096
+  pub below : index < count
+  pub counts : (countOf x ≡ 0) ⊎ (countOf x ≡ count)
+  pub new : heardAt x index ≡ false
+
+module _ {x : List ℕ} {count index : ℕ} (M : Markable x count index) where
   spot : 2 + index / 32 < length (set x 1 count)
-  spot = rw (length-set x 1 count) (omega (arith, S .long))
+  spot = rw (length-set x 1 count) (omega (arith, M .sound .long, M .small, M .below))
 
   pub marked-batch : batchOf (marked x count index) ≡ batchOf x
   unfolding marked
@@ -79,7 +85,7 @@ module _ (x : List ℕ) (S : SoundInbox x) (count index : ℕ) (small : count �
 
   pub marked-count : countOf (marked x count index) ≡ count
   unfolding marked
-  marked-count = getD-set-other (set x 1 count) (2 + index / 32) 1 (word x (2 + index / 32) + 2 ^ (index % 32)) 0 (omega arith) ∙ getD-set-same x 1 count 0 (omega (arith, S .long))
+  marked-count = getD-set-other (set x 1 count) (2 + index / 32) 1 (word x (2 + index / 32) + 2 ^ (index % 32)) 0 (omega arith) ∙ getD-set-same x 1 count 0 (omega (arith, M .sound .long))
 
   word-here : word (marked x count index) (2 + index / 32) ≡ word x (2 + index / 32) + 2 ^ (index % 32)
   unfolding marked
@@ -90,7 +96,7 @@ module _ (x : List ℕ) (S : SoundInbox x) (count index : ℕ) (small : count �
   word-other i p q = getD-set-other (set x 1 count) (2 + index / 32) i (word x (2 + index / 32) + 2 ^ (index % 32)) 0 q ∙ getD-set-other x 1 i count 0 p
 
   was : heardBit x index ≡ 0
-  was = unheard-bit x index new
+  was = unheard-bit x index (M .new)
 
   -- its bit is set
   pub marked-here : heardBit (marked x count index) index ≡ 1
@@ -114,25 +120,25 @@ module _ (x : List ℕ) (S : SoundInbox x) (count index : ℕ) (small : count �
 
       back : (j ≡ index) ⊎ (heardAt x j ≡ true) → heardAt (marked x count index) j ≡ true
       back (inl e) = rw (e, marked-here)
-      back (inr h) = rw (marked-other j (λ e. false≢true (sym new ∙ ap (heardAt x) (sym e) ∙ h))) h
+      back (inr h) = rw (marked-other j (λ e. false≢true (sym (M .new) ∙ ap (heardAt x) (sym e) ∙ h))) h
 
   -- the inbox stays sound
   pub marked-sound : SoundInbox (marked x count index)
   unfolding marked
   marked-sound = record {
-    long = length-set (set x 1 count) (2 + index / 32) (word x (2 + index / 32) + 2 ^ (index % 32)) ∙ length-set x 1 count ∙ S .long;
-    small = rw marked-count small;
+    long = length-set (set x 1 count) (2 + index / 32) (word x (2 + index / 32) + 2 ^ (index % 32)) ∙ length-set x 1 count ∙ M .sound .long;
+    small = rw marked-count (M .small);
     clear = λ i p q. clear i (rw marked-count at p) q;
   }
     where
       clear : (i : ℕ) → count ≤ i → i < 4096 → heardAt (marked x count index) i ≡ false
-      clear i p q = rw (marked-other i (omega arith)) (S .clear i (⊎-elim (λ e. omega arith) (λ e. omega arith) counts) q)
+      clear i p q = rw (marked-other i (omega (arith, M .below))) (M .sound .clear i (⊎-elim (λ e. omega arith) (λ e. omega arith) (M .counts)) q)
 
   -- its words stay u32
   pub marked-words : Words x → Words (marked x count index)
   marked-words W i = go (ℕ-discrete i 1) (ℕ-discrete i (2 + index / 32))
     where
       go : Dec (i ≡ 1) → Dec (i ≡ 2 + index / 32) → word (marked x count index) i < 2 ^ 32
-      go (yes p) d = rw (p, marked-count) (omega arith)
+      go (yes p) d = rw (p, marked-count) (omega (arith, M .small))
       go (no p) (yes q) = rw (q, word-here) (bit-room 32 (index % 32) (word x (2 + index / 32)) (omega arith) (W (2 + index / 32)) was)
       go (no p) (no q) = rw (word-other i p q) (W i)

@@ -15,7 +15,7 @@ use Rattle.model.specs.Block.{word, bit, Words}
 use Rattle.model.specs.Inbox.{countOf, heardBit, heardAt, SoundInbox, marked, heardIn, missing}
 use Rattle.model.proofs.Bits.{bit-zero, bit-suc}
 use Rattle.model.proofs.Counts.{hit-yes, hit-no, hits-same, hits-change, hits-none, hits-some, hits-find}
-use Rattle.model.proofs.Heard.{unheard-bit, marked-here, marked-other, marked-count, marked-sound, marked-words}
+use Rattle.model.proofs.Heard.{Markable, unheard-bit, marked-here, marked-other, marked-count, marked-sound, marked-words}
 
 -- counted in two runs
 hits-more : (f : ℕ → ℕ) (n k j : ℕ) → hits f n (k + j) ≡ hits f n k + hits (λ i. f (k + i)) n j
@@ -88,13 +88,22 @@ module _ (x : List ℕ) (S : SoundInbox x) (W : Words x) where
       back : ((i : ℕ) → i < countOf x → heardAt x i ≡ true) → missing x ≡ 0
       back all = missing-counts ∙ hits-none (heardBit x) 0 (countOf x) (λ i h. omega (arith, eqb-true (heardBit x i) 1 (all i h)))
 
--- an index newly heard, once the count is known, is one less missing
-pub missing-marked : (x : List ℕ) → SoundInbox x → Words x → (count index : ℕ) → count ≤ 4096 → index < count → countOf x ≡ count → heardAt x index ≡ false
-    → missing x ≡ suc (missing (marked x count index))
-missing-marked x S W count index m h e new =
+-- a new index is one less of those below count that are not heard
+marked-less : {x : List ℕ} {count index : ℕ} → Markable x count index → Words x → hits (heardBit x) 0 count ≡ suc (missing (marked x count index))
+marked-less {x} {count} {index} M W =
     let y = marked x count index in
-    let after = missing-counts y (marked-sound x S count index m h (inr e) new) (marked-words x S count index m h (inr e) new W) in
-    let change = hits-change (heardBit x) (heardBit y) 0 count index h (λ j _ ne. marked-other x S count index m h (inr e) new j ne) in
-    let before = hit-yes (heardBit x index) 0 (unheard-bit x index new) in
-    let now = hit-no (heardBit y index) 0 (omega (arith, marked-here x S count index m h (inr e) new)) in
-    omega (arith, missing-counts x S W ∙ ap (hits (heardBit x) 0) e, after ∙ ap (hits (heardBit y) 0) (marked-count x S count index m h (inr e) new), change, before, now)
+    let after = missing-counts y (marked-sound M) (marked-words M W) ∙ ap (hits (heardBit y) 0) (marked-count M) in
+    let change = hits-change (heardBit x) (heardBit y) 0 count index (M .below) (λ j _ ne. marked-other M j ne) in
+    let before = hit-yes (heardBit x index) 0 (unheard-bit x index (M .new)) in
+    let now = hit-no (heardBit y index) 0 (omega (arith, marked-here M)) in
+    omega (arith, after, change, before, now)
+
+-- once the count is known, a new index is one less missing
+pub missing-marked : {x : List ℕ} {count index : ℕ} → Markable x count index → Words x → countOf x ≡ count → missing x ≡ suc (missing (marked x count index))
+missing-marked {x} M W e = missing-counts x (M .sound) W ∙ ap (hits (heardBit x) 0) e ∙ marked-less M W
+
+-- the first index leaves all others missing
+pub missing-first : {x : List ℕ} {count index : ℕ} → Markable x count index → Words x → countOf x ≡ 0 → count ≡ suc (missing (marked x count index))
+missing-first {x} {count} M W e =
+    let none = hits-none (heardBit x) 1 count (λ i h. eqb-false (heardBit x i) 1 (M .sound .clear i (omega arith) (omega (arith, M .small)))) in
+    omega (arith, hits-both (heardBit x) count (λ i. omega arith), none, marked-less M W)
