@@ -27,3 +27,4 @@ pub mod Lines
 pub mod Frames
 pub mod Heard
 pub mod Missing
+pub mod Replicas

@@ -1,13 +1,14 @@
 -- A standby that hears the frames of a batch.
 use mathlib.Core.Path.{_≡_}
-use mathlib.Core.Logic.{_⊎_}
+use mathlib.Core.Logic.{_≢_, _⊎_}
 use Prim.Native.Nat.{ℕ, zero, suc, _<_}
 use mathlib.Core.Bool.{Bool, true, false, _||_}
 use mathlib.Core.List.{List, [], _∷_}
+use lib.ListN.{length}
 use lib.Dec.{eqb}
 use Rattle.model.specs.Tree.{Entry, put, without}
-use Rattle.model.specs.Frame.{Frame}
-use Rattle.model.specs.Inbox.{batchOf, countOf, heardAt, marked}
+use Rattle.model.specs.Frame.{Frame, frameAt}
+use Rattle.model.specs.Inbox.{batchOf, countOf, heardAt, begun, marked}
 use Rattle.model.specs.Numbers.{NO_ROOM, BATCH, COUNT}
 
 -- its inbox, and the entries of the version that it edits
@@ -69,3 +70,16 @@ accepted new = true
 unfoldable pub Accepted : Standby → List Arrival → ℕ → Type 0
 Accepted s [] i = ⊥
 Accepted s (a ∷ later) i = ((a .frame .index ≡ i) × (accepted (reply (s .inbox) a) ≡ true)) ⊎ Accepted (hear s a) later i
+
+-- begun with a batch, its entries as they are
+abbrev pub started : ℕ → List Entry → Standby
+started batch es = record { inbox = begun batch; entries = es }
+
+-- one of the frames, or a frame of another batch
+abbrev pub Expected : ℕ → List Frame → Frame → Type 0
+Expected batch fs f = ((i : ℕ) × (i < length fs) × (f ≡ frameAt fs i)) ⊎ (f .batch ≢ batch)
+
+-- each line that arrives is such a frame
+unfoldable pub AllExpected : ℕ → List Frame → List Arrival → Type 0
+AllExpected batch fs [] = Unit {0}
+AllExpected batch fs (a ∷ later) = Expected batch fs (a .frame) × AllExpected batch fs later
