@@ -1,14 +1,14 @@
 -- The frames of a delta.
 use mathlib.Core.Path.{_≡_, refl, ap, sym, _∙_}
-use Prim.Native.Nat.{ℕ, zero, suc, _+_, _≤_, _<_}
+use Prim.Native.Nat.{ℕ, zero, suc, _+_, _^_, _≤_, _<_}
 use mathlib.Core.Bool.{true}
 use mathlib.Core.Option.{Option, none, some}
 use mathlib.Core.List.{List, [], _∷_}
 use lib.ListN.{length, getD}
 use native.Mathlib.Omega.{arith}
 use Rattle.model.specs.Delta.{Change, changeAt}
-use Rattle.model.specs.Frame.{Frame, legal, kindLegal, frameOf, nothing, numbered, framesOf, frameAt}
-use Rattle.model.proofs.Lines.{Legal, legal-exactly}
+use Rattle.model.specs.Frame.{Frame, line, legal, kindLegal, Fitting, parse, frameOf, nothing, numbered, framesOf, frameAt}
+use Rattle.model.proofs.Lines.{Legal, legal-exactly, parse-line}
 
 -- the frame is number i of n in batch b
 pub record Numbered (b n i : ℕ) (f : Frame) : Type 0 where
@@ -74,3 +74,28 @@ frames-legal batch [] m (suc i) h = absurd (omega arith)
 frames-legal batch (c ∷ cs) m i h =
     let l = frames-length batch (c ∷ cs) (omega arith) in
     rw (frame-at batch (c ∷ cs) i (omega arith)) (legal-exactly (frameOf batch (length (c ∷ cs)) i (changeAt (c ∷ cs) i)) .1 (frame-legal batch (length (c ∷ cs)) i (changeAt (c ∷ cs) i) m (omega arith)))
+
+-- key and value of the change are u32
+pub record Narrow (c : Change) : Type 0 where
+  pub key : c .key < 2 ^ 32
+  pub value : (v : ℕ) → c .now ≡ some v → v < 2 ^ 32
+
+frame-fitting : (batch count i : ℕ) (c : Change) → batch < 2 ^ 32 → Narrow c → Fitting (frameOf batch count i c)
+unfolding frameOf
+frame-fitting batch count i c b n = go (c .now) refl
+  where
+    go : (o : Option ℕ) → c .now ≡ o → Fitting (frameOf batch count i c)
+    go none e = rw (e, frameOf) (record { batch = b; key = n .key; value = omega arith })
+    go (some v) e = rw (e, frameOf) (record { batch = b; key = n .key; value = n .value v e })
+
+-- each frame is read from its line, if all numbers are u32
+pub frames-parsed : (batch : ℕ) (cs : List Change) → batch < 2 ^ 32 → length cs ≤ 4096 → ((i : ℕ) → i < length cs → Narrow (changeAt cs i))
+    → (i : ℕ) → i < length (framesOf batch cs) → parse (line (frameAt (framesOf batch cs) i)) ≡ some (frameAt (framesOf batch cs) i)
+frames-parsed batch cs b m n i h = parse-line (frameAt (framesOf batch cs) i) (frames-legal batch cs m i h) (go cs n i h)
+  where
+    go : (cs : List Change) → ((i : ℕ) → i < length cs → Narrow (changeAt cs i)) → (i : ℕ) → i < length (framesOf batch cs) → Fitting (frameAt (framesOf batch cs) i)
+    go [] n zero h = unfold framesOf in record { batch = b; key = omega arith; value = omega arith }
+    go [] n (suc i) h = unfold framesOf in absurd (omega arith)
+    go (c ∷ cs) n i h =
+        let l = frames-length batch (c ∷ cs) (omega arith) in
+        rw (frame-at batch (c ∷ cs) i (omega arith)) (frame-fitting batch (length (c ∷ cs)) i (changeAt (c ∷ cs) i) b (n i (omega arith)))

@@ -27,4 +27,5 @@ pub mod Lines
 pub mod Frames
 pub mod Heard
 pub mod Missing
+pub mod Replies
 pub mod Replicas

@@ -15,7 +15,7 @@ use Rattle.model.specs.Delta.{Change, changeAt, Carries}
 use Rattle.model.specs.Frame.{Frame, frameOf, framesOf, frameAt}
 use Rattle.model.specs.Block.{Words}
 use Rattle.model.specs.Inbox.{batchOf, countOf, heardAt, SoundInbox, begun, marked, Complete}
-use Rattle.model.specs.Replica.{Standby, Arrival, Reply, refused, repeat, new, reply, edited, hear, hears, accepted, Accepted, started, Expected, AllExpected}
+use Rattle.model.specs.Replica.{Standby, Arrival, Reply, refused, repeat, new, reply, edited, hear, hears, accepted, Accepted, started, Expected, AllExpected, Sending, Replica}
 use Rattle.model.specs.Numbers.{NO_ROOM, COUNT}
 use Rattle.model.proofs.Tests.{either}
 use Rattle.model.proofs.Unions.{Is}
@@ -24,53 +24,7 @@ use Rattle.model.proofs.Maps.{updated, updated-at, updated-other, put-i
 use Rattle.model.proofs.Frames.{Numbered, frames-length, frame-at, frames-count}
 use Rattle.model.proofs.Heard.{Markable, begun-batch, begun-count, begun-sound, begun-words, begun-heard, marked-batch, marked-count, marked-sound, marked-words, marked-heard}
 use Rattle.model.proofs.Missing.{missing-zero}
-
--- what a reply tells of the line
-abbrev pub Told : List ℕ → Arrival → Reply → Type 0
-Told x a (refused n) = Unit {0}
-Told x a repeat = heardAt x (a .frame .index) ≡ true
-Told x a new = (a .frame .batch ≡ batchOf x) × ((countOf x ≡ 0) ⊎ (countOf x ≡ a .frame .count)) × (heardAt x (a .frame .index) ≡ false)
-
-pub reply-told : (x : List ℕ) (a : Arrival) → Told x a (reply x a)
-unfolding reply
-reply-told x a = batch (eqb (a .frame .batch) (batchOf x)) refl
-  where
-    heard : (h : Bool) → heardAt x (a .frame .index) ≡ h → a .frame .batch ≡ batchOf x → (countOf x ≡ 0) ⊎ (countOf x ≡ a .frame .count)
-        → Told x a (elim h [ true ↦ repeat | false ↦ elim (a .room) [ true ↦ new | false ↦ refused NO_ROOM ] ])
-    heard true e b c = e
-    heard false e b c = room (a .room)
-      where
-        room : (r : Bool) → Told x a (elim r [ true ↦ new | false ↦ refused NO_ROOM ])
-        room true = (b, c, e)
-        room false = tt
-
-    count : (t : Bool) → (eqb (countOf x) 0 || eqb (countOf x) (a .frame .count)) ≡ t → a .frame .batch ≡ batchOf x → Told x a (elim t [
-      | false ↦ refused COUNT
-      | true ↦ elim (heardAt x (a .frame .index)) [ true ↦ repeat | false ↦ elim (a .room) [ true ↦ new | false ↦ refused NO_ROOM ] ]
-    ])
-    count false e b = tt
-    count true e b = heard (heardAt x (a .frame .index)) refl b (⊎-elim (λ q. inl (eqb-true (countOf x) 0 q)) (λ q. inr (eqb-true (countOf x) (a .frame .count) q)) (either (eqb (countOf x) 0) (eqb (countOf x) (a .frame .count)) e))
-
-    batch : (t : Bool) → eqb (a .frame .batch) (batchOf x) ≡ t → Told x a (reply x a)
-    batch false e = rw (e, reply) tt
-    batch true e = rw (e, reply) (count (eqb (countOf x) 0 || eqb (countOf x) (a .frame .count)) refl (eqb-true (a .frame .batch) (batchOf x) e))
-
--- the edit of a change's frame sets its key to what the change says
-pub edited-is : (batch count i : ℕ) (c : Change) (xs : List Entry) → Sorted xs → Is (edited (frameOf batch count i c) xs) (updated c (find xs))
-unfolding frameOf edited
-edited-is batch count i c xs s = go (c .key) (c .now)
-  where
-    go : (k : ℕ) (o : Option ℕ) → Is (edited (frameOf batch count i (record { key = k; now = o })) xs) (updated (record { key = k; now = o }) (find xs))
-    go k none = without-is xs k s
-    go k (some v) = put-is xs k v s
-
--- the changes carry the entries es to fs, and are as many as a batch may hold
-pub record Sending (batch : ℕ) (es fs : List Entry) (cs : List Change) : Type 0 where
-  pub number : batch < 2 ^ 32
-  pub short : length cs ≤ 4096
-  pub before : Sorted es
-  pub after : Sorted fs
-  pub carries : Carries (find es) (find fs) cs
+use Rattle.model.proofs.Replies.{Told, reply-told, edited-is}
 
 -- what holds of a standby from the start: each key heard is as in fs, every other key as in es or fs
 pub record Follows (batch : ℕ) (es fs : List Entry) (cs : List Change) (s : Standby) : Type 0 where
@@ -235,18 +189,6 @@ module _ {batch : ℕ} {es fs : List Entry} {cs : List Change} (D : Sending batc
       go k (inr w) =
           let h = complete-heard s F .0 c (w .0) (rw (frames-length batch cs (omega (arith, w .1))) (w .1)) in
           ap (find (s .entries)) (sym (w .2)) ∙ F .done (w .0) (w .1) h ∙ ap (find fs) (w .2)
-
--- what a standby comes to that hears these lines from the start
-pub record Replica (batch : ℕ) (es fs : List Entry) (cs : List Change) (lines : List Arrival) (s : Standby) : Type 0 where
-  -- it is complete exactly when every frame has been accepted at least once
-  pub exactly : Complete (s .inbox) ↔ ((i : ℕ) → i < length (framesOf batch cs) → Accepted (started batch es) lines i)
-  -- once complete it holds fs
-  pub whole : Complete (s .inbox) → s .entries ≡ fs
-  -- at every moment each key is as in es or as in fs
-  pub between : (k : ℕ) → (find (s .entries) k ≡ find es k) ⊎ (find (s .entries) k ≡ find fs k)
-  -- its entries ascend and its inbox is sound
-  pub sorted : Sorted (s .entries)
-  pub sound : SoundInbox (s .inbox)
 
 -- the frames of a delta in any order, any number of times, lost, refused for room or among lines of other batches
 pub replica : {batch : ℕ} {es fs : List Entry} {cs : List Change} → Sending batch es fs cs
