@@ -1,10 +1,10 @@
 -- The frames of a delta.
-use mathlib.Core.Path.{_≡_, refl, ap, sym, _∙_}
+use mathlib.Core.Path.{_≡_, refl, ap, _∙_}
 use Prim.Native.Nat.{ℕ, zero, suc, _+_, _^_, _≤_, _<_}
 use mathlib.Core.Bool.{true}
 use mathlib.Core.Option.{Option, none, some}
 use mathlib.Core.List.{List, [], _∷_}
-use lib.ListN.{length, getD}
+use lib.ListN.{length}
 use native.Mathlib.Omega.{arith}
 use Rattle.model.specs.Delta.{Change, changeAt}
 use Rattle.model.specs.Frame.{Frame, line, legal, kindLegal, Fitting, parse, frameOf, nothing, numbered, framesOf, frameAt}
@@ -42,8 +42,8 @@ unfolding frameOf
 frame-legal batch count i c m h = go (c .now) refl
   where
     go : (o : Option ℕ) → c .now ≡ o → Legal (frameOf batch count i c)
-    go none e = rw (e, frameOf) (record { least = omega arith; most = m; below = h; kinds = omega arith; removes = λ q. refl; nothing = λ q. absurd (omega arith) })
-    go (some v) e = rw (e, frameOf) (record { least = omega arith; most = m; below = h; kinds = omega arith; removes = λ q. absurd (omega arith); nothing = λ q. absurd (omega arith) })
+    go none e = rw (e, frameOf) (record { least = omega arith; most = m; below = h; kind = record { known = omega arith; removes = λ q. refl; nothing = λ q. absurd (omega arith) } })
+    go (some v) e = rw (e, frameOf) (record { least = omega arith; most = m; below = h; kind = record { known = omega arith; removes = λ q. absurd (omega arith); nothing = λ q. absurd (omega arith) } })
 
 -- a delta that is not empty has as many frames as changes
 pub frames-length : (batch : ℕ) (cs : List Change) → 0 < length cs → length (framesOf batch cs) ≡ length cs
@@ -51,7 +51,13 @@ unfolding framesOf
 frames-length batch [] h = absurd (omega arith)
 frames-length batch (c ∷ cs) h = numbered-length batch (length (c ∷ cs)) 0 (c ∷ cs)
 
--- and frame i is that of change i
+-- a batch has 1 to 4,096 frames
+pub frames-few : (batch : ℕ) (cs : List Change) → length cs ≤ 4096 → (0 < length (framesOf batch cs)) × (length (framesOf batch cs) ≤ 4096)
+unfolding framesOf
+frames-few batch [] h = (omega arith, omega arith)
+frames-few batch (c ∷ cs) h = let l = frames-length batch (c ∷ cs) (omega arith) in (omega arith, omega arith)
+
+-- frame i is that of change i
 pub frame-at : (batch : ℕ) (cs : List Change) (i : ℕ) → i < length cs → frameAt (framesOf batch cs) i ≡ frameOf batch (length cs) i (changeAt cs i)
 unfolding framesOf
 frame-at batch [] i h = absurd (omega arith)
@@ -73,7 +79,8 @@ frames-legal batch [] m zero h = refl
 frames-legal batch [] m (suc i) h = absurd (omega arith)
 frames-legal batch (c ∷ cs) m i h =
     let l = frames-length batch (c ∷ cs) (omega arith) in
-    rw (frame-at batch (c ∷ cs) i (omega arith)) (legal-exactly (frameOf batch (length (c ∷ cs)) i (changeAt (c ∷ cs) i)) .1 (frame-legal batch (length (c ∷ cs)) i (changeAt (c ∷ cs) i) m (omega arith)))
+    let f = frameOf batch (length (c ∷ cs)) i (changeAt (c ∷ cs) i) in
+    rw (frame-at batch (c ∷ cs) i (omega arith)) (legal-exactly f .1 (frame-legal batch (length (c ∷ cs)) i (changeAt (c ∷ cs) i) m (omega arith)))
 
 -- key and value of the change are u32
 pub record Narrow (c : Change) : Type 0 where

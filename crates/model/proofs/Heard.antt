@@ -1,13 +1,12 @@
 -- The inbox: begun, and marked.
 use mathlib.Core.Path.{_≡_, refl, ap, sym, _∙_}
 use mathlib.Core.Logic.{_≢_, _⊎_, inl, inr, ⊎-elim, _↔_}
-use Prim.Native.Nat.{ℕ, zero, suc, _+_, _-_, _*_, _/_, _%_, _^_, _≤_, _<_}
+use Prim.Native.Nat.{ℕ, zero, suc, _+_, _/_, _%_, _^_, _≤_, _<_}
 use mathlib.Core.Bool.{true, false, false≢true}
-use mathlib.Core.List.{List, [], _∷_}
+use mathlib.Core.List.{List}
 use lib.ListN.{length, getD, set, replicate, length-set, length-replicate}
 use lib.Seq.{getD-set-same, getD-set-other}
-use lib.Dec.{eqb}
-use borrow.Author.Tests.{eqb-true, eqb-false, eq-eqb, ne-eqb}
+use borrow.Author.Tests.{eqb-false}
 use native.Mathlib.Omega.{arith}
 use native.Mathlib.Nat.{pow-suc}
 use native.Mathlib.Decide.{ℕ-discrete}
@@ -76,29 +75,35 @@ pub record Markable (x : List ℕ) (count index : ℕ) : Type 0 where
   pub new : heardAt x index ≡ false
 
 module _ {x : List ℕ} {count index : ℕ} (M : Markable x count index) where
+  -- the heard word with the bit added
+  abbrev now : ℕ
+  now = word x (2 + index / 32) + 2 ^ (index % 32)
+
   spot : 2 + index / 32 < length (set x 1 count)
   spot = rw (length-set x 1 count) (omega (arith, M .sound .long, M .small, M .below))
 
+  -- the batch stays
   pub marked-batch : batchOf (marked x count index) ≡ batchOf x
   unfolding marked
-  marked-batch = getD-set-other (set x 1 count) (2 + index / 32) 0 (word x (2 + index / 32) + 2 ^ (index % 32)) 0 (omega arith) ∙ getD-set-other x 1 0 count 0 (omega arith)
+  marked-batch = getD-set-other (set x 1 count) (2 + index / 32) 0 now 0 (omega arith) ∙ getD-set-other x 1 0 count 0 (omega arith)
 
+  -- the count is set
   pub marked-count : countOf (marked x count index) ≡ count
   unfolding marked
-  marked-count = getD-set-other (set x 1 count) (2 + index / 32) 1 (word x (2 + index / 32) + 2 ^ (index % 32)) 0 (omega arith) ∙ getD-set-same x 1 count 0 (omega (arith, M .sound .long))
+  marked-count = getD-set-other (set x 1 count) (2 + index / 32) 1 now 0 (omega arith) ∙ getD-set-same x 1 count 0 (omega (arith, M .sound .long))
 
-  word-here : word (marked x count index) (2 + index / 32) ≡ word x (2 + index / 32) + 2 ^ (index % 32)
+  word-here : word (marked x count index) (2 + index / 32) ≡ now
   unfolding marked
-  word-here = getD-set-same (set x 1 count) (2 + index / 32) (word x (2 + index / 32) + 2 ^ (index % 32)) 0 spot
+  word-here = getD-set-same (set x 1 count) (2 + index / 32) now 0 spot
 
   word-other : (i : ℕ) → i ≢ 1 → i ≢ 2 + index / 32 → word (marked x count index) i ≡ word x i
   unfolding marked
-  word-other i p q = getD-set-other (set x 1 count) (2 + index / 32) i (word x (2 + index / 32) + 2 ^ (index % 32)) 0 q ∙ getD-set-other x 1 i count 0 p
+  word-other i p q = getD-set-other (set x 1 count) (2 + index / 32) i now 0 q ∙ getD-set-other x 1 i count 0 p
 
   was : heardBit x index ≡ 0
   was = unheard-bit x index (M .new)
 
-  -- its bit is set
+  -- the index's bit is set
   pub marked-here : heardBit (marked x count index) index ≡ 1
   marked-here = rw word-here (bit-set-same (index % 32) (word x (2 + index / 32)) was)
 
@@ -126,7 +131,7 @@ module _ {x : List ℕ} {count index : ℕ} (M : Markable x count index) where
   pub marked-sound : SoundInbox (marked x count index)
   unfolding marked
   marked-sound = record {
-    long = length-set (set x 1 count) (2 + index / 32) (word x (2 + index / 32) + 2 ^ (index % 32)) ∙ length-set x 1 count ∙ M .sound .long;
+    long = length-set (set x 1 count) (2 + index / 32) now ∙ length-set x 1 count ∙ M .sound .long;
     small = rw marked-count (M .small);
     clear = λ i p q. clear i (rw marked-count at p) q;
   }

@@ -1,8 +1,8 @@
 -- Frame lines: a line that is written is read as it was, and no other line is read.
 use mathlib.Core.Path.{_≡_, refl, ap, sym, _∙_}
-use Prim.Native.Nat.{ℕ, zero, suc, _+_, _*_, _/_, _%_, _^_, _≤_, _<_}
+use Prim.Native.Nat.{ℕ, zero, suc, _+_, _^_, _≤_, _<_}
 use mathlib.Core.Logic.{_⊎_, inl, inr, _↔_}
-use mathlib.Core.Bool.{Bool, true, false, _&&_, _||_}
+use mathlib.Core.Bool.{Bool, true, false, _&&_}
 use mathlib.Core.Option.{Option, none, some}
 use mathlib.Core.List.{List, [], _∷_, _++_}
 use native.Mathlib.Omega.{arith}
@@ -10,68 +10,67 @@ use lib.Dec.{eqb, ltb, leb}
 use lib.ListN.{length, getD, take, drop, length-drop}
 use lib.Seq.{take-all, take-add, take-suc, length-take-le}
 use borrow.Author.Tests.{eqb-true, ltb-true, leb-true, eq-eqb, lt-ltb, le-leb}
-use Rattle.model.specs.Frame.{Frame, _>>=_, digits, number, line, legal, kindLegal, Fitting, field, fields, parse}
+use Rattle.model.specs.Frame.{Frame, _>>=_, digits, line, legal, kindLegal, Fitting, field, fields, parse}
 use Rattle.model.proofs.Tests.{both, either}
 use Rattle.model.proofs.Digits.{number-digits, digits-number}
 
--- document 01's sentence on count, index and kind
+-- kind 01 puts; 02 removes, value 0; 00 says "nothing changed", only with index 0, count 1, key 0, value 0
+pub record LegalKind (f : Frame) : Type 0 where
+  pub known : f .kind ≤ 2
+  pub removes : f .kind ≡ 2 → f .value ≡ 0
+  pub nothing : f .kind ≡ 0 → (f .index ≡ 0) × (f .count ≡ 1) × (f .key ≡ 0) × (f .value ≡ 0)
+
+-- count is 1 to 4,096, index below count, and the kind's rule holds
 pub record Legal (f : Frame) : Type 0 where
   pub least : 1 ≤ f .count
   pub most : f .count ≤ 4096
   pub below : f .index < f .count
-  pub kinds : f .kind ≤ 2
-  pub removes : f .kind ≡ 2 → f .value ≡ 0
-  pub nothing : f .kind ≡ 0 → (f .index ≡ 0) × (f .count ≡ 1) × (f .key ≡ 0) × (f .value ≡ 0)
+  pub kind : LegalKind f
 
--- what the kind's rule says
-kind-says : (f : Frame) (k : ℕ) → f .kind ≡ k → kindLegal f ≡ true
-    → (f .kind ≤ 2) × (f .kind ≡ 2 → f .value ≡ 0) × (f .kind ≡ 0 → (f .index ≡ 0) × (f .count ≡ 1) × (f .key ≡ 0) × (f .value ≡ 0))
+kind-says : (f : Frame) (k : ℕ) → f .kind ≡ k → kindLegal f ≡ true → LegalKind f
 unfolding kindLegal
 kind-says f zero e h =
     let c = both (eqb (f .index) 0 && eqb (f .count) 1 && eqb (f .key) 0) (eqb (f .value) 0) (rw (e, kindLegal) at h) in
     let b = both (eqb (f .index) 0 && eqb (f .count) 1) (eqb (f .key) 0) (c .0) in
     let a = both (eqb (f .index) 0) (eqb (f .count) 1) (b .0) in
     let v = eqb-true (f .value) 0 (c .1) in
-    (omega arith, λ q. v, λ q. (eqb-true (f .index) 0 (a .0), eqb-true (f .count) 1 (a .1), eqb-true (f .key) 0 (b .1), v))
+    record { known = omega arith; removes = λ q. v; nothing = λ q. (eqb-true (f .index) 0 (a .0), eqb-true (f .count) 1 (a .1), eqb-true (f .key) 0 (b .1), v) }
 kind-says f (suc k) e h = go (either (eqb k 0) (eqb k 1 && eqb (f .value) 0) (rw (e, kindLegal) at h))
   where
-    go : (eqb k 0 ≡ true) ⊎ ((eqb k 1 && eqb (f .value) 0) ≡ true)
-        → (f .kind ≤ 2) × (f .kind ≡ 2 → f .value ≡ 0) × (f .kind ≡ 0 → (f .index ≡ 0) × (f .count ≡ 1) × (f .key ≡ 0) × (f .value ≡ 0))
-    go (inl p) = let z = eqb-true k 0 p in (omega arith, λ q. absurd (omega arith), λ q. absurd (omega arith))
+    go : (eqb k 0 ≡ true) ⊎ ((eqb k 1 && eqb (f .value) 0) ≡ true) → LegalKind f
+    go (inl p) =
+        let z = eqb-true k 0 p in
+        record { known = omega arith; removes = λ q. absurd (omega arith); nothing = λ q. absurd (omega arith) }
     go (inr p) =
         let a = both (eqb k 1) (eqb (f .value) 0) p in
         let z = eqb-true k 1 (a .0) in
-        (omega arith, λ q. eqb-true (f .value) 0 (a .1), λ q. absurd (omega arith))
+        record { known = omega arith; removes = λ q. eqb-true (f .value) 0 (a .1); nothing = λ q. absurd (omega arith) }
 
--- a legal frame is as the sentence says
+says-kind : (f : Frame) (k : ℕ) → f .kind ≡ k → LegalKind f → kindLegal f ≡ true
+unfolding kindLegal
+says-kind f zero e h =
+    let z = h .nothing e in
+    rw (e, kindLegal) (rw (eq-eqb (f .index) 0 (z .0), eq-eqb (f .count) 1 (z .1), eq-eqb (f .key) 0 (z .2), eq-eqb (f .value) 0 (z .3)))
+says-kind f (suc zero) e h = rw (e, kindLegal)
+says-kind f (suc (suc zero)) e h = rw (e, kindLegal) (rw (eq-eqb (f .value) 0 (h .removes e)))
+says-kind f (suc (suc (suc k))) e h = absurd (omega (arith, h .known))
+
 legal-says : (f : Frame) → legal f ≡ true → Legal f
 unfolding legal
 legal-says f h =
     let c = both (leb 1 (f .count) && leb (f .count) 4096 && ltb (f .index) (f .count)) (kindLegal f) h in
     let b = both (leb 1 (f .count) && leb (f .count) 4096) (ltb (f .index) (f .count)) (c .0) in
     let a = both (leb 1 (f .count)) (leb (f .count) 4096) (b .0) in
-    let k = kind-says f (f .kind) refl (c .1) in
     record {
       least = leb-true 1 (f .count) (a .0);
       most = leb-true (f .count) 4096 (a .1);
       below = ltb-true (f .index) (f .count) (b .1);
-      kinds = k .0;
-      removes = k .1;
-      nothing = k .2;
+      kind = kind-says f (f .kind) refl (c .1);
     }
 
--- a frame as the sentence says is legal
 says-legal : (f : Frame) → Legal f → legal f ≡ true
-unfolding legal kindLegal
-says-legal f h = rw (le-leb 1 (f .count) (h .least), le-leb (f .count) 4096 (h .most), lt-ltb (f .index) (f .count) (h .below)) (go (f .kind) refl)
-  where
-    go : (k : ℕ) → f .kind ≡ k → kindLegal f ≡ true
-    go zero e =
-        let z = h .nothing e in
-        rw (e, kindLegal) (rw (eq-eqb (f .index) 0 (z .0), eq-eqb (f .count) 1 (z .1), eq-eqb (f .key) 0 (z .2), eq-eqb (f .value) 0 (z .3)))
-    go (suc zero) e = rw (e, kindLegal)
-    go (suc (suc zero)) e = rw (e, kindLegal) (rw (eq-eqb (f .value) 0 (h .removes e)))
-    go (suc (suc (suc k))) e = absurd (omega (arith, h .kinds))
+unfolding legal
+says-legal f h = rw (le-leb 1 (f .count) (h .least), le-leb (f .count) 4096 (h .most), lt-ltb (f .index) (f .count) (h .below)) (says-kind f (f .kind) refl (h .kind))
 
 -- a frame is legal exactly when document 01's sentence holds of it
 pub legal-exactly : (f : Frame) → (legal f ≡ true) ↔ Legal f
@@ -131,7 +130,7 @@ parse-line f l h = rw (read-fields (line f) f r) (rw (l, _>>=_))
       batch = number-digits 8 (f .batch) (h .batch);
       index = number-digits 4 (f .index) (omega (arith, k .most, k .below));
       count = number-digits 4 (f .count) (omega (arith, k .most));
-      kind = number-digits 2 (f .kind) (omega (arith, k .kinds));
+      kind = number-digits 2 (f .kind) (omega (arith, k .kind .known));
       key = number-digits 8 (f .key) (h .key);
       value = number-digits 8 (f .value) (h .value);
     }

@@ -22,10 +22,12 @@ use Rattle.model.proofs.Edits.{remove-entries}
 unfoldable pub updated : Change → (ℕ → Option ℕ) → ℕ → Option ℕ
 updated c m k = elim (eqb k (c .key)) [ true ↦ c .now | false ↦ m k ]
 
+-- at its key
 pub updated-at : (c : Change) (m : ℕ → Option ℕ) (k : ℕ) → k ≡ c .key → updated c m k ≡ c .now
 unfolding updated
 updated-at c m k e = rw (eq-eqb k (c .key) e, updated)
 
+-- at any other key
 pub updated-other : (c : Change) (m : ℕ → Option ℕ) (k : ℕ) → k ≢ c .key → updated c m k ≡ m k
 unfolding updated
 updated-other c m k e = rw (ne-eqb k (c .key) e, updated)

@@ -1,11 +1,11 @@
 -- Missing: the indexes below count that are not heard.
 use mathlib.Core.Path.{_≡_, refl, ap, sym, _∙_}
-use mathlib.Core.Logic.{_≢_, _⊎_, inl, inr, _↔_}
-use Prim.Native.Nat.{ℕ, zero, suc, _+_, _-_, _*_, _/_, _%_, _^_, _≤_, _<_}
-use mathlib.Core.Bool.{true, false}
+use mathlib.Core.Logic.{_↔_}
+use Prim.Native.Nat.{ℕ, zero, suc, _+_, _-_, _*_, _/_, _%_, _^_, _<_}
+use mathlib.Core.Bool.{true}
 use mathlib.Core.List.{List}
 use lib.Count.{ones, ones-step, ones-le}
-use borrow.Author.Tests.{eqb-true, eqb-false, eq-eqb, ne-eqb}
+use borrow.Author.Tests.{eqb-true, eqb-false, eq-eqb}
 use native.Mathlib.Omega.{arith}
 use native.Mathlib.Numerals.{one-add}
 use native.Mathlib.Nat.{add-zero, add-suc, pow-suc}
@@ -14,7 +14,7 @@ use Rattle.model.specs.Heap.{hit, hits}
 use Rattle.model.specs.Block.{word, bit, Words}
 use Rattle.model.specs.Inbox.{countOf, heardBit, heardAt, SoundInbox, marked, heardIn, missing}
 use Rattle.model.proofs.Bits.{bit-zero, bit-suc}
-use Rattle.model.proofs.Counts.{hit-yes, hit-no, hits-same, hits-change, hits-none, hits-some, hits-find}
+use Rattle.model.proofs.Counts.{hit-yes, hit-no, hits-same, hits-change, hits-none, hits-some}
 use Rattle.model.proofs.Heard.{Markable, unheard-bit, marked-here, marked-other, marked-count, marked-sound, marked-words}
 
 -- counted in two runs
@@ -53,7 +53,7 @@ heardIn-hits x W zero = unfold hits in refl
 heardIn-hits x W (suc k) =
     let more : 32 * suc k ≡ 32 * k + 32 = omega arith in
     let here : hits (λ i. heardBit x (32 * k + i)) 1 32 ≡ hits (bit (word x (2 + k))) 1 32 =
-            hits-same (bit (word x (2 + k))) (λ i. heardBit x (32 * k + i)) 1 32 (λ i l. same i l) in
+    hits-same (bit (word x (2 + k))) (λ i. heardBit x (32 * k + i)) 1 32 (λ i l. same i l) in
     rw (more, hits-more (heardBit x) 1 (32 * k) 32) (omega (arith, here, ones-hits 32 (word x (2 + k)) (W (2 + k)), heardIn-hits x W k))
   where
     same : (i : ℕ) → i < 32 → heardBit x (32 * k + i) ≡ bit (word x (2 + k)) i
@@ -69,9 +69,9 @@ module _ (x : List ℕ) (S : SoundInbox x) (W : Words x) where
   missing-counts =
       let n = countOf x in
       let all : hits (heardBit x) 1 4096 ≡ hits (heardBit x) 1 n + hits (λ i. heardBit x (n + i)) 1 (4096 - n) =
-              ap (hits (heardBit x) 1) (omega (arith, S .small)) ∙ hits-more (heardBit x) 1 n (4096 - n) in
+      ap (hits (heardBit x) 1) (omega (arith, S .small)) ∙ hits-more (heardBit x) 1 n (4096 - n) in
       let above : hits (λ i. heardBit x (n + i)) 1 (4096 - n) ≡ 0 =
-              hits-none (λ i. heardBit x (n + i)) 1 (4096 - n) (λ i h. eqb-false (heardBit x (n + i)) 1 (S .clear (n + i) (omega arith) (omega arith))) in
+      hits-none (λ i. heardBit x (n + i)) 1 (4096 - n) (λ i h. eqb-false (heardBit x (n + i)) 1 (S .clear (n + i) (omega arith) (omega arith))) in
       omega (arith, heardIn-hits x W 128, all, above, hits-both (heardBit x) n (λ i. omega arith))
 
   -- none is missing exactly when every index below count is heard

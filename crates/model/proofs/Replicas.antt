@@ -1,27 +1,23 @@
 -- A standby that hears the frames of a delta, in any order and any number of times, with losses, refusals and lines of other batches.
 use mathlib.Core.Path.{_≡_, refl, ap, sym, subst, _∙_}
-use mathlib.Core.Logic.{_≢_, _⊎_, inl, inr, ⊎-elim, _↔_}
-use Prim.Native.Nat.{ℕ, zero, suc, _^_, _≤_, _<_}
-use mathlib.Core.Bool.{Bool, true, false, _||_, false≢true}
-use mathlib.Core.Option.{Option, none, some}
+use mathlib.Core.Logic.{_⊎_, inl, inr, ⊎-elim, _↔_}
+use Prim.Native.Nat.{ℕ, zero, suc, _<_}
+use mathlib.Core.Bool.{true, false≢true}
+use mathlib.Core.Option.{Option, none}
 use mathlib.Core.List.{List, [], _∷_}
 use lib.ListN.{length}
-use lib.Dec.{eqb}
-use borrow.Author.Tests.{eqb-true}
 use native.Mathlib.Omega.{arith}
 use native.Mathlib.Decide.{ℕ-discrete}
 use Rattle.model.specs.Tree.{Entry, find, Sorted}
 use Rattle.model.specs.Delta.{Change, changeAt, Carries}
-use Rattle.model.specs.Frame.{Frame, frameOf, framesOf, frameAt}
+use Rattle.model.specs.Frame.{Frame, framesOf, frameAt}
 use Rattle.model.specs.Block.{Words}
 use Rattle.model.specs.Inbox.{batchOf, countOf, heardAt, SoundInbox, begun, marked, Complete}
 use Rattle.model.specs.Replica.{Standby, Arrival, Reply, refused, repeat, new, reply, edited, hear, hears, accepted, Accepted, started, Expected, AllExpected, Sending, Replica}
-use Rattle.model.specs.Numbers.{NO_ROOM, COUNT}
-use Rattle.model.proofs.Tests.{either}
 use Rattle.model.proofs.Unions.{Is}
 use Rattle.model.proofs.Lists.{sorted-ext}
-use Rattle.model.proofs.Maps.{updated, updated-at, updated-other, put-is, without-is}
-use Rattle.model.proofs.Frames.{Numbered, frames-length, frame-at, frames-count}
+use Rattle.model.proofs.Maps.{updated, updated-at, updated-other}
+use Rattle.model.proofs.Frames.{frames-length, frames-few, frame-at, frames-count}
 use Rattle.model.proofs.Heard.{Markable, begun-batch, begun-count, begun-sound, begun-words, begun-heard, marked-batch, marked-count, marked-sound, marked-words, marked-heard}
 use Rattle.model.proofs.Missing.{missing-zero}
 use Rattle.model.proofs.Replies.{Told, reply-told, edited-is}
@@ -42,6 +38,7 @@ record Edits (fs : List Entry) (cs : List Change) (i : ℕ) (xs ys : List Entry)
   here : i < length cs → find ys (changeAt cs i .key) ≡ find fs (changeAt cs i .key)
   moves : (k : ℕ) → (find ys k ≡ find fs k) ⊎ (find ys k ≡ find xs k)
 
+-- the edit of a change
 change-edits : (A : ℕ → Option ℕ) (fs : List Entry) (cs : List Change) → Carries A (find fs) cs → (i : ℕ) → i < length cs
     → (xs ys : List Entry) → Is ys (updated (changeAt cs i) (find xs)) → Edits fs cs i xs ys
 change-edits A fs cs C i h xs ys I = record { sorted = I .sorted; here = λ _. at (changeAt cs i .key) refl; moves = λ k. go k (ℕ-discrete k (changeAt cs i .key)) }
@@ -53,6 +50,7 @@ change-edits A fs cs C i h xs ys I = record { sorted = I .sorted; here = λ _. a
     go k (yes e) = inl (at k e)
     go k (no e) = inr (I .finds k ∙ updated-other (changeAt cs i) (find xs) k e)
 
+-- the edit of a frame, "nothing" too
 frame-edits : (batch : ℕ) (A : ℕ → Option ℕ) (fs : List Entry) (cs : List Change) → Carries A (find fs) cs → (i : ℕ) → i < length (framesOf batch cs)
     → (xs : List Entry) → Sorted xs → Edits fs cs i xs (edited (frameAt (framesOf batch cs) i) xs)
 unfolding framesOf edited
@@ -61,11 +59,6 @@ frame-edits batch A fs [] C (suc i) h xs s = absurd (omega arith)
 frame-edits batch A fs (c ∷ cs) C i h xs s =
     let l : i < length (c ∷ cs) = rw (frames-length batch (c ∷ cs) (omega arith)) at h in
     rw (frame-at batch (c ∷ cs) i l) (change-edits A fs (c ∷ cs) C i l xs _ (edited-is batch (length (c ∷ cs)) i (changeAt (c ∷ cs) i) xs s))
-
-frames-few : (batch : ℕ) (cs : List Change) → length cs ≤ 4096 → (0 < length (framesOf batch cs)) × (length (framesOf batch cs) ≤ 4096)
-unfolding framesOf
-frames-few batch [] h = (omega arith, omega arith)
-frames-few batch (c ∷ cs) h = let l = frames-length batch (c ∷ cs) (omega arith) in (omega arith, omega arith)
 
 module _ {batch : ℕ} {es fs : List Entry} {cs : List Change} (D : Sending batch es fs cs) where
   -- a standby just started
@@ -145,6 +138,7 @@ module _ {batch : ℕ} {es fs : List Entry} {cs : List Change} (D : Sending batc
           let m = marked-heard (fresh s a F w (rw e at t) .markable) i in
           rw (e, hear) (λ h. ⊎-elim (λ p. inr (sym p, refl)) (λ p. inl p) (m .0 h), ⊎-elim (λ h. m .1 (inr h)) (λ p. m .1 (inl (sym (p .0)))))
 
+  -- and so do any number of lines
   pub hears-follows : (lines : List Arrival) → AllExpected batch (framesOf batch cs) lines → (s : Standby) → Follows batch es fs cs s → Follows batch es fs cs (hears s lines)
   unfolding hears AllExpected
   hears-follows [] w s F = F
@@ -157,8 +151,7 @@ module _ {batch : ℕ} {es fs : List Entry} {cs : List Change} (D : Sending batc
   hears-heard [] w s F i = (inl, ⊎-elim (λ h. h) (λ p. absurd p))
   hears-heard (a ∷ later) w s F i =
       let one = hear-heard s a (w .0) F i in
-      let rest = hears-heard later (w .1) (hear s a) (hear-follows s a (w .0) F) i in
-      (
+      let rest = hears-heard later (w .1) (hear s a) (hear-follows s a (w .0) F) i in (
         λ h. ⊎-elim (λ p. ⊎-elim (λ q. inl q) (λ q. inr (inl q)) (one .0 p)) (λ p. inr (inr p)) (rest .0 h),
         ⊎-elim (λ h. rest .1 (inl (one .1 (inl h)))) (⊎-elim (λ h. rest .1 (inl (one .1 (inr h)))) (λ h. rest .1 (inr h))),
       )

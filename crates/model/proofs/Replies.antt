@@ -1,29 +1,21 @@
 -- One line: what its reply tells, and what its edit does.
-use mathlib.Core.Path.{_≡_, refl, ap, sym, subst, _∙_}
-use mathlib.Core.Logic.{_≢_, _⊎_, inl, inr, ⊎-elim, _↔_}
-use Prim.Native.Nat.{ℕ, zero, suc, _^_, _≤_, _<_}
-use mathlib.Core.Bool.{Bool, true, false, _||_, false≢true}
+use mathlib.Core.Path.{_≡_, refl}
+use mathlib.Core.Logic.{_⊎_, inl, inr, ⊎-elim}
+use Prim.Native.Nat.{ℕ}
+use mathlib.Core.Bool.{Bool, true, false, _||_}
 use mathlib.Core.Option.{Option, none, some}
-use mathlib.Core.List.{List, [], _∷_}
-use lib.ListN.{length}
+use mathlib.Core.List.{List}
 use lib.Dec.{eqb}
 use borrow.Author.Tests.{eqb-true}
-use native.Mathlib.Omega.{arith}
-use native.Mathlib.Decide.{ℕ-discrete}
 use Rattle.model.specs.Tree.{Entry, find, Sorted}
-use Rattle.model.specs.Delta.{Change, changeAt, Carries}
-use Rattle.model.specs.Frame.{Frame, frameOf, framesOf, frameAt}
-use Rattle.model.specs.Block.{Words}
-use Rattle.model.specs.Inbox.{batchOf, countOf, heardAt, SoundInbox, begun, marked, Complete}
-use Rattle.model.specs.Replica.{Standby, Arrival, Reply, refused, repeat, new, reply, edited, hear, hears, accepted, Accepted, started, Expected, AllExpected}
+use Rattle.model.specs.Delta.{Change}
+use Rattle.model.specs.Frame.{frameOf}
+use Rattle.model.specs.Inbox.{batchOf, countOf, heardAt}
+use Rattle.model.specs.Replica.{Arrival, Reply, refused, repeat, new, reply, edited}
 use Rattle.model.specs.Numbers.{NO_ROOM, COUNT}
 use Rattle.model.proofs.Tests.{either}
 use Rattle.model.proofs.Unions.{Is}
-use Rattle.model.proofs.Lists.{sorted-ext}
-use Rattle.model.proofs.Maps.{updated, updated-at, updated-other, put-is, without-is}
-use Rattle.model.proofs.Frames.{Numbered, frames-length, frame-at, frames-count}
-use Rattle.model.proofs.Heard.{Markable, begun-batch, begun-count, begun-sound, begun-words, begun-heard, marked-batch, marked-count, marked-sound, marked-words, marked-heard}
-use Rattle.model.proofs.Missing.{missing-zero}
+use Rattle.model.proofs.Maps.{updated, put-is, without-is}
 
 -- what a reply tells of the line
 abbrev pub Told : List ℕ → Arrival → Reply → Type 0
@@ -31,6 +23,7 @@ Told x a (refused n) = Unit {0}
 Told x a repeat = heardAt x (a .frame .index) ≡ true
 Told x a new = (a .frame .batch ≡ batchOf x) × ((countOf x ≡ 0) ⊎ (countOf x ≡ a .frame .count)) × (heardAt x (a .frame .index) ≡ false)
 
+-- each reply tells so
 pub reply-told : (x : List ℕ) (a : Arrival) → Told x a (reply x a)
 unfolding reply
 reply-told x a = batch (eqb (a .frame .batch) (batchOf x)) refl
@@ -49,7 +42,9 @@ reply-told x a = batch (eqb (a .frame .batch) (batchOf x)) refl
       | true ↦ elim (heardAt x (a .frame .index)) [ true ↦ repeat | false ↦ elim (a .room) [ true ↦ new | false ↦ refused NO_ROOM ] ]
     ])
     count false e b = tt
-    count true e b = heard (heardAt x (a .frame .index)) refl b (⊎-elim (λ q. inl (eqb-true (countOf x) 0 q)) (λ q. inr (eqb-true (countOf x) (a .frame .count) q)) (either (eqb (countOf x) 0) (eqb (countOf x) (a .frame .count)) e))
+    count true e b =
+        let c = either (eqb (countOf x) 0) (eqb (countOf x) (a .frame .count)) e in
+        heard (heardAt x (a .frame .index)) refl b (⊎-elim (λ q. inl (eqb-true (countOf x) 0 q)) (λ q. inr (eqb-true (countOf x) (a .frame .count) q)) c)
 
     batch : (t : Bool) → eqb (a .frame .batch) (batchOf x) ≡ t → Told x a (reply x a)
     batch false e = rw (e, reply) tt
