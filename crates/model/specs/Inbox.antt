@@ -20,6 +20,7 @@ countOf x = word x 1
 abbrev pub heardBit : List ℕ → ℕ → ℕ
 heardBit x i = bit (word x (2 + i / 32)) (i % 32)
 
+-- index i is heard
 abbrev pub heardAt : List ℕ → ℕ → Bool
 heardAt x i = eqb (heardBit x i) 1
 

@@ -76,14 +76,14 @@ Accepted s (a ∷ later) i = ((a .frame .index ≡ i) × (accepted (reply (s .in
 abbrev pub started : ℕ → List Entry → Standby
 started batch es = record { inbox = begun batch; entries = es }
 
--- one of the frames, or a frame of another batch
+-- one of the frames sent, or a frame of another batch
 abbrev pub Expected : ℕ → List Frame → Frame → Type 0
-Expected batch fs f = ((i : ℕ) × (i < length fs) × (f ≡ frameAt fs i)) ⊎ (f .batch ≢ batch)
+Expected batch sent f = ((i : ℕ) × (i < length sent) × (f ≡ frameAt sent i)) ⊎ (f .batch ≢ batch)
 
 -- each line that arrives is such a frame
 unfoldable pub AllExpected : ℕ → List Frame → List Arrival → Type 0
-AllExpected batch fs [] = Unit {0}
-AllExpected batch fs (a ∷ later) = Expected batch fs (a .frame) × AllExpected batch fs later
+AllExpected batch sent [] = Unit {0}
+AllExpected batch sent (a ∷ later) = Expected batch sent (a .frame) × AllExpected batch sent later
 
 -- the changes carry the entries es to fs, and are as many as a batch may hold
 pub record Sending (batch : ℕ) (es fs : List Entry) (cs : List Change) : Type 0 where
