@@ -33,3 +33,12 @@ pub mod Members
 pub mod Picks
 pub mod Deltas
 pub mod DeltaRoom
+pub mod Tests
+pub mod Maps
+pub mod Digits
+pub mod Lines
+pub mod Frames
+pub mod Heard
+pub mod Missing
+pub mod Replies
+pub mod Replicas

@@ -1,5 +1,5 @@
 -- Frame lines.
-use Prim.Native.Nat.{ℕ, zero, suc, _+_, _-_, _*_, _/_, _%_}
+use Prim.Native.Nat.{ℕ, zero, suc, _+_, _-_, _*_, _/_, _%_, _^_, _<_}
 use mathlib.Core.Bool.{Bool, true, false, _&&_, _||_}
 use mathlib.Core.Option.{Option, none, some}
 use mathlib.Core.List.{List, [], _∷_, _++_}
@@ -59,6 +59,12 @@ kindLegal f = elim (f .kind) [
 unfoldable pub legal : Frame → Bool
 legal f = leb 1 (f .count) && leb (f .count) 4096 && ltb (f .index) (f .count) && kindLegal f
 
+-- batch, key and value are any that fit eight digits
+pub record Fitting (f : Frame) : Type 0 where
+  pub batch : f .batch < 2 ^ 32
+  pub key : f .key < 2 ^ 32
+  pub value : f .value < 2 ^ 32
+
 -- the number in k digits of the line from place `at` on
 abbrev pub field : List ℕ → ℕ → ℕ → Option ℕ
 field cs at k = number 0 (take k (drop at cs))
@@ -103,6 +109,10 @@ numbered batch count index (c ∷ cs) = frameOf batch count index c ∷ numbered
 unfoldable pub framesOf : ℕ → List Change → List Frame
 framesOf batch [] = nothing batch ∷ []
 framesOf batch (c ∷ cs) = numbered batch (length (c ∷ cs)) 0 (c ∷ cs)
+
+-- frame i of the list
+abbrev pub frameAt : List Frame → ℕ → Frame
+frameAt fs i = getD fs i (nothing 0)
 
 -- the frames that carry a to b
 abbrev pub frames : ℕ → Tree → Tree → List Frame

@@ -2,7 +2,7 @@
 use mathlib.Core.Path.{_≡_}
 use Prim.Native.Nat.{ℕ, zero, suc, _+_, _-_, _/_, _%_, _^_, _≤_, _<_}
 use mathlib.Core.Bool.{Bool, true, false}
-use mathlib.Core.List.{List, [], _∷_}
+use mathlib.Core.List.{List, _∷_}
 use lib.ListN.{length, replicate, set}
 use lib.Dec.{eqb}
 use lib.Count.{ones}
@@ -17,8 +17,12 @@ abbrev pub countOf : List ℕ → ℕ
 countOf x = word x 1
 
 -- bit b of heard word w is index 32w + b
+abbrev pub heardBit : List ℕ → ℕ → ℕ
+heardBit x i = bit (word x (2 + i / 32)) (i % 32)
+
+-- index i is heard
 abbrev pub heardAt : List ℕ → ℕ → Bool
-heardAt x i = eqb (bit (word x (2 + i / 32)) (i % 32)) 1
+heardAt x i = eqb (heardBit x i) 1
 
 -- count at most 4,096 and no bit at or above count
 pub record SoundInbox (x : List ℕ) : Type 0 where

@@ -1,0 +1,174 @@
+-- Frame lines: a line that is written is read as it was, and no other line is read.
+use mathlib.Core.Path.{_≡_, refl, ap, sym, _∙_}
+use Prim.Native.Nat.{ℕ, zero, suc, _+_, _^_, _≤_, _<_}
+use mathlib.Core.Logic.{_⊎_, inl, inr, _↔_}
+use mathlib.Core.Bool.{Bool, true, false, _&&_}
+use mathlib.Core.Option.{Option, none, some}
+use mathlib.Core.List.{List, [], _∷_, _++_}
+use native.Mathlib.Omega.{arith}
+use lib.Dec.{eqb, ltb, leb}
+use lib.ListN.{length, getD, take, drop, length-drop}
+use lib.Seq.{take-all, take-add, take-suc, length-take-le}
+use borrow.Author.Tests.{eqb-true, ltb-true, leb-true, eq-eqb, lt-ltb, le-leb}
+use Rattle.model.specs.Frame.{Frame, _>>=_, digits, line, legal, kindLegal, Fitting, field, fields, parse}
+use Rattle.model.proofs.Tests.{both, either}
+use Rattle.model.proofs.Digits.{number-digits, digits-number}
+
+-- kind 01 puts; 02 removes, value 0; 00 says "nothing changed", only with index 0, count 1, key 0, value 0
+pub record LegalKind (f : Frame) : Type 0 where
+  pub known : f .kind ≤ 2
+  pub removes : f .kind ≡ 2 → f .value ≡ 0
+  pub nothing : f .kind ≡ 0 → (f .index ≡ 0) × (f .count ≡ 1) × (f .key ≡ 0) × (f .value ≡ 0)
+
+-- count is 1 to 4,096, index below count, and the kind's rule holds
+pub record Legal (f : Frame) : Type 0 where
+  pub least : 1 ≤ f .count
+  pub most : f .count ≤ 4096
+  pub below : f .index < f .count
+  pub kind : LegalKind f
+
+kind-says : (f : Frame) (k : ℕ) → f .kind ≡ k → kindLegal f ≡ true → LegalKind f
+unfolding kindLegal
+kind-says f zero e h =
+    let c = both (eqb (f .index) 0 && eqb (f .count) 1 && eqb (f .key) 0) (eqb (f .value) 0) (rw (e, kindLegal) at h) in
+    let b = both (eqb (f .index) 0 && eqb (f .count) 1) (eqb (f .key) 0) (c .0) in
+    let a = both (eqb (f .index) 0) (eqb (f .count) 1) (b .0) in
+    let v = eqb-true (f .value) 0 (c .1) in
+    record { known = omega arith; removes = λ q. v; nothing = λ q. (eqb-true (f .index) 0 (a .0), eqb-true (f .count) 1 (a .1), eqb-true (f .key) 0 (b .1), v) }
+kind-says f (suc k) e h = go (either (eqb k 0) (eqb k 1 && eqb (f .value) 0) (rw (e, kindLegal) at h))
+  where
+    go : (eqb k 0 ≡ true) ⊎ ((eqb k 1 && eqb (f .value) 0) ≡ true) → LegalKind f
+    go (inl p) =
+        let z = eqb-true k 0 p in
+        record { known = omega arith; removes = λ q. absurd (omega arith); nothing = λ q. absurd (omega arith) }
+    go (inr p) =
+        let a = both (eqb k 1) (eqb (f .value) 0) p in
+        let z = eqb-true k 1 (a .0) in
+        record { known = omega arith; removes = λ q. eqb-true (f .value) 0 (a .1); nothing = λ q. absurd (omega arith) }
+
+says-kind : (f : Frame) (k : ℕ) → f .kind ≡ k → LegalKind f → kindLegal f ≡ true
+unfolding kindLegal
+says-kind f zero e h =
+    let z = h .nothing e in
+    rw (e, kindLegal) (rw (eq-eqb (f .index) 0 (z .0), eq-eqb (f .count) 1 (z .1), eq-eqb (f .key) 0 (z .2), eq-eqb (f .value) 0 (z .3)))
+says-kind f (suc zero) e h = rw (e, kindLegal)
+says-kind f (suc (suc zero)) e h = rw (e, kindLegal) (rw (eq-eqb (f .value) 0 (h .removes e)))
+says-kind f (suc (suc (suc k))) e h = absurd (omega (arith, h .known))
+
+legal-says : (f : Frame) → legal f ≡ true → Legal f
+unfolding legal
+legal-says f h =
+    let c = both (leb 1 (f .count) && leb (f .count) 4096 && ltb (f .index) (f .count)) (kindLegal f) h in
+    let b = both (leb 1 (f .count) && leb (f .count) 4096) (ltb (f .index) (f .count)) (c .0) in
+    let a = both (leb 1 (f .count)) (leb (f .count) 4096) (b .0) in
+    record {
+      least = leb-true 1 (f .count) (a .0);
+      most = leb-true (f .count) 4096 (a .1);
+      below = ltb-true (f .index) (f .count) (b .1);
+      kind = kind-says f (f .kind) refl (c .1);
+    }
+
+says-legal : (f : Frame) → Legal f → legal f ≡ true
+unfolding legal
+says-legal f h = rw (le-leb 1 (f .count) (h .least), le-leb (f .count) 4096 (h .most), lt-ltb (f .index) (f .count) (h .below)) (says-kind f (f .kind) refl (h .kind))
+
+-- a frame is legal exactly when document 01's sentence holds of it
+pub legal-exactly : (f : Frame) → (legal f ≡ true) ↔ Legal f
+legal-exactly f = (legal-says f, says-legal f)
+
+-- a line has 35 bytes
+pub line-length : (f : Frame) → length (line f) ≡ 35
+unfolding line digits
+line-length f = refl
+
+-- what the six fields say
+record Read (cs : List ℕ) (f : Frame) : Type 0 where
+  batch : field cs 0 8 ≡ some (f .batch)
+  index : field cs 8 4 ≡ some (f .index)
+  count : field cs 12 4 ≡ some (f .count)
+  kind : field cs 16 2 ≡ some (f .kind)
+  key : field cs 18 8 ≡ some (f .key)
+  value : field cs 26 8 ≡ some (f .value)
+
+read-fields : (cs : List ℕ) (f : Frame) → Read cs f → fields cs ≡ some f
+unfolding fields
+read-fields cs f r = rw (r .batch, fields) (rw (r .index) (rw (r .count) (rw (r .kind) (rw (r .key) (rw (r .value))))))
+
+bind-some : {A B : Type 0} (x : Option A) (g : A → Option B) (b : B) → (x >>= g) ≡ some b → (a : A) × (x ≡ some a) × (g a ≡ some b)
+bind-some none g b e = let z : _≡_ {A = ℕ} 0 1 = cc e in absurd (omega arith)
+bind-some (some a) g b e = (a, refl, e)
+
+fields-read : (cs : List ℕ) (f : Frame) → fields cs ≡ some f → Read cs f
+unfolding fields
+fields-read cs f e =
+    let a = bind-some (field cs 0 8) _ f e in
+    let b = bind-some (field cs 8 4) _ f (a .2) in
+    let c = bind-some (field cs 12 4) _ f (b .2) in
+    let d = bind-some (field cs 16 2) _ f (c .2) in
+    let g = bind-some (field cs 18 8) _ f (d .2) in
+    let h = bind-some (field cs 26 8) _ f (g .2) in
+    let r : record { batch = a .0; index = b .0; count = c .0; kind = d .0; key = g .0; value = h .0 } ≡ f = cc (h .2) in
+    record {
+      batch = a .1 ∙ ap (λ x. some (x .batch)) r;
+      index = b .1 ∙ ap (λ x. some (x .index)) r;
+      count = c .1 ∙ ap (λ x. some (x .count)) r;
+      kind = d .1 ∙ ap (λ x. some (x .kind)) r;
+      key = g .1 ∙ ap (λ x. some (x .key)) r;
+      value = h .1 ∙ ap (λ x. some (x .value)) r;
+    }
+
+-- a legal frame that fits is read from its line
+pub parse-line : (f : Frame) → legal f ≡ true → Fitting f → parse (line f) ≡ some f
+unfolding parse line digits
+parse-line f l h = rw (read-fields (line f) f r) (rw (l, _>>=_))
+  where
+    k : Legal f
+    k = legal-says f l
+
+    r : Read (line f) f
+    r = record {
+      batch = number-digits 8 (f .batch) (h .batch);
+      index = number-digits 4 (f .index) (omega (arith, k .most, k .below));
+      count = number-digits 4 (f .count) (omega (arith, k .most));
+      kind = number-digits 2 (f .kind) (omega (arith, k .kind .known));
+      key = number-digits 8 (f .key) (h .key);
+      value = number-digits 8 (f .value) (h .value);
+    }
+
+-- the line is its fields and the newline
+cut-line : (cs : List ℕ) → length cs ≡ 35 → getD cs 34 0 ≡ 10
+    → cs ≡ take 8 (drop 0 cs) ++ take 4 (drop 8 cs) ++ take 4 (drop 12 cs) ++ take 2 (drop 16 cs) ++ take 8 (drop 18 cs) ++ take 8 (drop 26 cs) ++ 10 ∷ []
+cut-line cs l e = sym (take-all 35 cs (omega arith)) ∙ take-suc cs 34 0 (omega arith) ∙ rw (e, take-add 26 8 cs, take-add 18 8 cs, take-add 16 2 cs, take-add 12 4 cs, take-add 8 4 cs)
+
+-- a field that is read was written so
+digits-field : (cs : List ℕ) (at k n : ℕ) → at + k ≤ length cs → field cs at k ≡ some n → (take k (drop at cs) ≡ digits k n) × (n < 16 ^ k)
+digits-field cs at k n h e =
+    let l : length (take k (drop at cs)) ≡ k = length-take-le k (drop at cs) (omega (arith, length-drop at cs)) in
+    rw l at (digits-number (take k (drop at cs)) n e)
+
+-- parse takes nothing but the line of a legal frame that fits
+pub parse-only : (cs : List ℕ) (f : Frame) → parse cs ≡ some f → (cs ≡ line f) × (legal f ≡ true) × Fitting f
+unfolding parse line
+parse-only cs f e = go (eqb (length cs) 35 && eqb (getD cs 34 0) 10) refl
+  where
+    read : length cs ≡ 35 → getD cs 34 0 ≡ 10 → legal f ≡ true → Read cs f → (cs ≡ line f) × (legal f ≡ true) × Fitting f
+    read l n k r =
+        let batch = digits-field cs 0 8 (f .batch) (omega arith) (r .batch) in
+        let index = digits-field cs 8 4 (f .index) (omega arith) (r .index) in
+        let count = digits-field cs 12 4 (f .count) (omega arith) (r .count) in
+        let kind = digits-field cs 16 2 (f .kind) (omega arith) (r .kind) in
+        let key = digits-field cs 18 8 (f .key) (omega arith) (r .key) in
+        let value = digits-field cs 26 8 (f .value) (omega arith) (r .value) in
+        (cut-line cs l n ∙ rw (batch .0, index .0, count .0, kind .0, key .0, value .0), k, record { batch = batch .1; key = key .1; value = value .1 })
+
+    legally : (b : Bool) (g : Frame) → legal g ≡ b → fields cs ≡ some g → elim b [ true ↦ some g | false ↦ none ] ≡ some f → (legal f ≡ true) × (fields cs ≡ some f)
+    legally true g k r q = let s : g ≡ f = cc q in (rw s at k, r ∙ ap some s)
+    legally false g k r q = let z : _≡_ {A = ℕ} 0 1 = cc q in absurd (omega arith)
+
+    go : (b : Bool) → (eqb (length cs) 35 && eqb (getD cs 34 0) 10) ≡ b → (cs ≡ line f) × (legal f ≡ true) × Fitting f
+    go true q =
+        let t = both (eqb (length cs) 35) (eqb (getD cs 34 0) 10) q in
+        let u = bind-some (fields cs) _ f (rw (q, parse) at e) in
+        let w = legally (legal (u .0)) (u .0) refl (u .1) (u .2) in
+        read (eqb-true (length cs) 35 (t .0)) (eqb-true (getD cs 34 0) 10 (t .1)) (w .0) (fields-read cs f (w .1))
+    go false q = let z : _≡_ {A = ℕ} 0 1 = cc (rw (q, parse) at e) in absurd (omega arith)
