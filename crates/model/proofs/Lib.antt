@@ -42,3 +42,4 @@ pub mod Heard
 pub mod Missing
 pub mod Replies
 pub mod Replicas
+pub mod Demand

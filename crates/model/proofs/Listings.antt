@@ -9,8 +9,9 @@ use borrow.Author.Tests.{eqb-true}
 use native.Mathlib.Omega.{arith}
 use Rattle.model.specs.Tree.{Tree, leaf, node, Entry, size, idOf, entries, cut, find, AllAbove, Sorted, Ordered}
 use Rattle.model.specs.Listing.{Item, tree, entry, Sides, Row, Turn, over, on, yield, pend, opened, turn, tooDeep, walk, start, turns, listing, Listed}
-use Rattle.model.specs.Heap.{Heap, Named, version, load, Linked, Sound}
+use Rattle.model.specs.Heap.{Heap, version, Linked, Sound}
 use Rattle.model.specs.Heap as H
+use Rattle.model.proofs.Versions.{version-ordered}
 use Rattle.model.proofs.Cancel.{Stands, stands-left, stands-right, stands-known, tree-stands}
 use Rattle.model.proofs.Compare.{cmp-lt, cmp-eq, cmp-gt}
 use Rattle.model.proofs.Finds.{above-none, past, found-first}
@@ -188,14 +189,6 @@ pub record OneHeap (a b : Tree) : Type 0 where
 
 pub turned : (a b : Tree) → OneHeap a b → OneHeap b a
 turned a b O = record { heap = O .heap; linked = O .linked; stands-left = O .stands-right; stands-right = O .stands-left; ordered-left = O .ordered-right; ordered-right = O .ordered-left }
-
-version-ordered : (h : Heap) → Sound h → (v : ℕ) → v < 16 → Ordered (version h v)
-unfolding H.tree load Ordered
-version-ordered h S v lt = go (h .root v) (S .kept .linked .roots v lt)
-  where
-    go : (n : ℕ) → Named h n → Ordered (H.tree h n)
-    go zero o = tt
-    go (suc n) o = S .ordered (suc n) o
 
 -- any two versions of a sound heap are such trees
 pub versions-one-heap : (h : Heap) → Sound h → (v w : ℕ) → v < 16 → w < 16 → OneHeap (version h v) (version h w)
