@@ -21,6 +21,8 @@ pub mod Keeping
 pub mod Cancel
 pub mod Bound
 pub mod Pinned
+pub mod Once
+pub mod Meanings
 pub mod Bits
 pub mod Giveups
 pub mod Wipes
