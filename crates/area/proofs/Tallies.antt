@@ -42,6 +42,10 @@ pub at-most : (t : List ℕ) (m x : ℕ) → AtMost t m → getD t x 0 ≤ m
 unfolding AtMost
 at-most t m x A = A x
 
+pub at-most-le : (t : List ℕ) (m k : ℕ) → m ≤ k → AtMost t m → AtMost t k
+unfolding AtMost
+at-most-le t m k le A x = omega (arith, A x)
+
 pub bumped-most : (t u : List ℕ) (m y : ℕ) → AtMost t m → y < length t → u ≡ set t y (getD t y 0 + 1) → AtMost u (m + 1)
 unfolding AtMost
 bumped-most t u m y A lt e x = rw e (omega (arith, bumped t y x lt, A x, hit-le y x))
