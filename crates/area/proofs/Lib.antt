@@ -1,0 +1,6 @@
+pub mod Answers
+pub mod Area
+pub mod Links
+pub mod Tallies
+pub mod Ends
+pub mod Orders

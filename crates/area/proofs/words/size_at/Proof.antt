@@ -1,0 +1,22 @@
+use mathlib.Core.Path.{sym, _∙_}
+use Rattle.area.proofs.Area.{sizeAt-some}
+use borrow.Author.Needs.{needs}
+use Rattle.area.proofs.words.size_at.Statement.{statement}
+use Rattle.area.proofs.words.size_at.Tie as tie
+
+-- src/lib.rt:68:9
+returns : tie.Need-returns
+returns c = search needs
+
+-- src/lib.rt:70:5
+node-word-requires : tie.Need-node-word-requires
+node-word-requires c κs = search needs
+
+-- src/lib.rt:63:1
+returns-2 : tie.Need-returns-2
+returns-2 c =
+    let st = c .before .before .before in
+    (c .node-word .ensures .0 ∙ sym (sizeAt-some (st .args .a .now) (st .args .x) (c .before .if1 .left)), c .node-word .ensures .1)
+
+pub size-at-spec : {M : Type 1} → statement M
+size-at-spec = tie.close (tie.spec returns node-word-requires returns-2)

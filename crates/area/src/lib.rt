@@ -1,0 +1,23 @@
+// The audit of the node area, which reaches it alone: the block's words from the first node word.
+ghost use mathlib.Core.Path.{_≡_};
+ghost use mathlib.Core.Bool.{true};
+ghost use Prim.Native.Nat.{_/_, _%_, _≤_};
+ghost use lib.ListN.{length};
+ghost use Rattle.area.specs.Answers.{Tells};
+ghost use Rattle.area.specs.Area.{area, AreaOk, AtMost, LinkTally};
+
+pub mod words;
+mod nodes;
+mod order;
+
+// Whether links, zeros, sizes and order are right in the area a; if so, t counts its links.
+pub fn area_ok(a: &[u32], t: &mut [u32]) -> bool
+    requires { ⌜ (length (now a) % 6 ≡ 0) × (length (now a) ≤ 24576) × (length (now t) ≡ 4097) × AtMost (now t) 0 ⌝ }
+    ensures { λ r. ⌜ Tells r (AreaOk (area (now (a .entry)))) × (r ≡ true → LinkTally (now (a .entry)) (now (t .exit)) (length (now (a .entry)) / 6)) ⌝ }
+{
+    let n = a.len() / 6;
+    if !nodes::nodes_ok(a, n, t) {
+        return false;
+    }
+    order::orders_ok(a, n)
+}

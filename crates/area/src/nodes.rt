@@ -1,0 +1,48 @@
+// Links, zeros and sizes.
+use crate::words::bump;
+use crate::words::named;
+use crate::words::node_word;
+use crate::words::size_at;
+ghost use mathlib.Core.Path.{_≡_};
+ghost use mathlib.Core.Bool.{true};
+ghost use Prim.Native.Nat.{_*_, _≤_};
+ghost use lib.ListN.{length};
+ghost use Rattle.area.specs.Answers.{Tells, Each};
+ghost use Rattle.area.specs.Area.{area, NodeOk, AtMost, LinkTally};
+
+// Whether node i is as it has to be, order and count apart.
+fn node_ok(a: &[u32], n: usize, i: usize) -> bool
+    requires { ⌜ (length (now a) ≡ 6 * n) × (1 ≤ i) × (i ≤ n) ⌝ }
+    ensures { λ r. ⌜ Tells r (NodeOk (area (now (a .entry))) i) ⌝ }
+{
+    let l = node_word(a, n, 2, i);
+    let r = node_word(a, n, 3, i);
+    let s = node_word(a, n, 4, i);
+    if node_word(a, n, 5, i) == 0 {
+        return node_word(a, n, 0, i) + node_word(a, n, 1, i) + l + r + s == 0;
+    }
+    if !named(a, n, l) {
+        return false;
+    }
+    if !named(a, n, r) {
+        return false;
+    }
+    s == 1 + size_at(a, n, l) + size_at(a, n, r)
+}
+
+// Whether each node is; if so, t counts the links of all, in the same pass.
+pub fn nodes_ok(a: &[u32], n: usize, t: &mut [u32]) -> bool
+    requires { ⌜ (length (now a) ≡ 6 * n) × (n ≤ 4096) × (length (now t) ≡ 4097) × AtMost (now t) 0 ⌝ }
+    ensures { λ r. ⌜ Tells r (Each 0 n (NodeOk (area (now (a .entry))))) × (r ≡ true → LinkTally (now (a .entry)) (now (t .exit)) n) ⌝ }
+{
+    let mut i = 0;
+    while i < n {
+        if !node_ok(a, n, i + 1) {
+            return false;
+        }
+        bump(t, node_word(a, n, 2, i + 1));
+        bump(t, node_word(a, n, 3, i + 1));
+        i += 1;
+    }
+    true
+}

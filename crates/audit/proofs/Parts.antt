@@ -1,0 +1,186 @@
+-- The audit's parts make up soundness: the block's heap is its area's, with the block's roots.
+use mathlib.Core.Path.{_≡_, refl, ap, sym, subst, _∙_}
+use Prim.Native.Nat.{ℕ, zero, suc, _+_, _-_, _*_, _/_, _≤_, _<_}
+use mathlib.Core.Bool.{Bool, true, false, true≢false}
+use mathlib.Core.List.{List}
+use lib.ListN.{length, getD, drop, take, length-drop}
+use lib.Seq.{getD-drop, take-all}
+use borrow.Author.Tests.{le-ltb, eq-eqb, ne-eqb}
+use native.Mathlib.Omega.{arith}
+use native.Mathlib.Nat.{le-of-eq}
+use native.Mathlib.Decide.{ℕ-discrete, decLt}
+use Rattle.model.specs.Tree.{Ordered}
+use Rattle.model.specs.Heap.{Heap, Occupied, Named, sizeAt, load, tree, hits, refs, Linked, Kept, Sound}
+use Rattle.model.specs.Block.{word, room, nodeWord, occupiedAt, heap, Shaped, SoundBlock}
+use Rattle.model.proofs.Steps.{refs-unoccupied}
+use Rattle.area.specs.Answers.{Tells, Each}
+use Rattle.area.specs.Area.{areaWord, area, AreaOk, LinkTally}
+use Rattle.area.proofs.Answers.{tells-map}
+use Rattle.area.proofs.Area.{getD-past, within-area}
+use Rattle.audit.specs.Whole.{nodesOf, RootsOk, RootTally, CountOk, CountsOk}
+
+-- the area with the block's roots
+abbrev withRoots : List ℕ → (ℕ → ℕ) → Heap
+withRoots a R = record {
+  room = length a / 6;
+  root = R;
+  occupied = area a .occupied;
+  key = areaWord a 0;
+  value = areaWord a 1;
+  left = areaWord a 2;
+  right = areaWord a 3;
+  size = areaWord a 4;
+  count = areaWord a 5;
+}
+
+module _ (a : List ℕ) (R : ℕ → ℕ) where
+  load-roots : (f n : ℕ) → load (withRoots a R) f n ≡ load (area a) f n
+  unfolding load
+  load-roots zero n = refl
+  load-roots (suc f) zero = refl
+  load-roots (suc f) (suc n) = rw (load-roots f (areaWord a 2 (suc n)), load-roots f (areaWord a 3 (suc n)))
+
+  tree-roots : (n : ℕ) → tree (withRoots a R) n ≡ tree (area a) n
+  unfolding tree
+  tree-roots zero = load-roots 0 0
+  tree-roots (suc n) = load-roots (areaWord a 4 (suc n)) (suc n)
+
+  named-roots : (n : ℕ) → Named (area a) n ≡ Named (withRoots a R) n
+  named-roots zero = refl
+  named-roots (suc n) = refl
+
+  size-roots : (n : ℕ) → sizeAt (area a) n ≡ sizeAt (withRoots a R) n
+  size-roots zero = refl
+  size-roots (suc n) = refl
+
+-- what the audit finds
+pub record Parts (b a : List ℕ) : Type 0 where
+  pub area-ok : AreaOk (area a)
+  pub marks : Each 0 (room b) (λ n. occupiedAt b n ≡ area a .occupied n)
+  pub roots : RootsOk b a 16
+  pub counts : Each 0 (room b) (λ n. areaWord a 5 n ≡ refs (heap b) n)
+
+module _ (b a : List ℕ) (B : Shaped b) (ea : a ≡ nodesOf b) where
+  pub area-long : length a ≡ 6 * room b
+  area-long = rw ea (length-drop (17 + room b / 32) b ∙ omega (arith, B .long))
+
+  word-is : (j n : ℕ) → nodeWord b j n ≡ areaWord a j n
+  word-is j zero = refl
+  word-is j (suc n) = rw ea (ap (word b) (omega arith) ∙ sym (getD-drop (17 + room b / 32) b (6 * n + j) 0))
+
+  room-is : room b ≡ length a / 6
+  room-is = omega (arith, area-long)
+
+  abbrev roots : ℕ → ℕ
+  roots = λ v. word b (1 + v)
+
+  module _ (marks : Each 0 (room b) (λ n. occupiedAt b n ≡ area a .occupied n)) where
+    occupied-is : (n : ℕ) → occupiedAt b n ≡ area a .occupied n
+    occupied-is zero = refl
+    occupied-is (suc n) = go (decLt n (room b))
+      where
+        go : Dec (n < room b) → occupiedAt b (suc n) ≡ area a .occupied (suc n)
+        go (yes p) = marks (suc n) (omega arith) (omega arith)
+        go (no p) = rw (le-ltb n (room b) (omega arith)) (sym (rw (eq-eqb (getD a (6 * n + 5) 0) 0 (getD-past a (6 * n + 5) (omega (arith, area-long))))))
+
+    heap-is : heap b ≡ withRoots a roots
+    heap-is = λ i. record {
+      room = room-is i;
+      root = roots;
+      occupied = λ n. occupied-is n i;
+      key = λ n. word-is 0 n i;
+      value = λ n. word-is 1 n i;
+      left = λ n. word-is 2 n i;
+      right = λ n. word-is 3 n i;
+      size = λ n. word-is 4 n i;
+      count = λ n. word-is 5 n i;
+    }
+
+    refs-is : (n : ℕ) → refs (heap b) n ≡ refs (withRoots a roots) n
+    refs-is n = ap (λ h. refs h n) heap-is
+
+    -- the tally at the end
+    tallied : (s t : List ℕ) → LinkTally a s (length a / 6) → RootTally b s t 16 → (n : ℕ) → getD t n 0 ≡ refs (heap b) n
+    unfolding RootTally LinkTally refs
+    tallied s t S T n = omega (arith, S n, T n, refs-is n)
+
+  parts-sound : Parts b a → SoundBlock b
+  parts-sound P = record { shaped = B; sound = subst Sound (sym (heap-is (P .marks))) sound }
+    where
+      L : Linked (area a)
+      L = P .area-ok .linked
+
+      linked : Linked (withRoots a roots)
+      linked = record {
+        within = L .within;
+        roots = λ v lt. rw (← named-roots a roots (roots v)) (P .roots v lt);
+        lefts = λ n o. rw (← named-roots a roots (areaWord a 2 n)) (L .lefts n o);
+        rights = λ n o. rw (← named-roots a roots (areaWord a 3 n)) (L .rights n o);
+        sizes = λ n o. omega (arith, L .sizes n o, size-roots a roots (areaWord a 2 n), size-roots a roots (areaWord a 3 n));
+        blank = λ n p q z. let Z = L .blank n p q z in record { key = Z .key; value = Z .value; left = Z .left; right = Z .right; size = Z .size; count = Z .count };
+      }
+
+      positive : (n : ℕ) → Occupied (area a) n → 1 ≤ areaWord a 5 n
+      positive n o = go (ℕ-discrete (areaWord a 5 n) 0)
+        where
+          go : Dec (areaWord a 5 n ≡ 0) → 1 ≤ areaWord a 5 n
+          go (yes e) = absurd (true≢false (sym o ∙ rw (eq-eqb (areaWord a 5 n) 0 e)))
+          go (no e) = omega arith
+
+      counts : (n : ℕ) → Occupied (area a) n → areaWord a 5 n ≡ refs (withRoots a roots) n
+      counts n o = let w = within-area a (room b) n area-long o in P .counts n (w .0) (w .1) ∙ refs-is (P .marks) n
+
+      sound : Sound (withRoots a roots)
+      sound = record {
+        kept = record { linked = linked; counts = counts; held = positive };
+        ordered = λ n o. subst Ordered (sym (tree-roots a roots n)) (P .area-ok .ordered n o);
+      }
+
+  pub sound-parts : SoundBlock b → Parts b a
+  sound-parts S = record {
+    area-ok = record { linked = linked; ordered = λ n o. subst Ordered (tree-roots a roots n) (T .ordered n o) };
+    marks = marks;
+    roots = λ v lt. rw (named-roots a roots (roots v)) (T .kept .linked .roots v lt);
+    counts = counts;
+  }
+    where
+      K : Kept (heap b)
+      K = S .sound .kept
+
+      marks : Each 0 (room b) (λ n. occupiedAt b n ≡ area a .occupied n)
+      marks i p q = go (occupiedAt b i) refl
+        where
+          go : (o : Bool) → occupiedAt b i ≡ o → occupiedAt b i ≡ area a .occupied i
+          go true o = o ∙ sym (rw (ne-eqb (areaWord a 5 i) 0 (λ z. absurd (omega (arith, K .held i o, word-is 5 i)))))
+          go false o = o ∙ sym (rw (eq-eqb (areaWord a 5 i) 0 (sym (word-is 5 i) ∙ K .linked .blank i p q o .count)))
+
+      T : Sound (withRoots a roots)
+      T = subst Sound (heap-is marks) (S .sound)
+
+      linked : Linked (area a)
+      linked = let L = T .kept .linked in record {
+        within = L .within;
+        roots = λ v lt. tt;
+        lefts = λ n o. rw (named-roots a roots (areaWord a 2 n)) (L .lefts n o);
+        rights = λ n o. rw (named-roots a roots (areaWord a 3 n)) (L .rights n o);
+        sizes = λ n o. omega (arith, L .sizes n o, size-roots a roots (areaWord a 2 n), size-roots a roots (areaWord a 3 n));
+        blank = λ n p q z. let Z = L .blank n p q z in record { key = Z .key; value = Z .value; left = Z .left; right = Z .right; size = Z .size; count = Z .count };
+      }
+
+      counts : Each 0 (room b) (λ n. areaWord a 5 n ≡ refs (heap b) n)
+      counts i p q = go (occupiedAt b i) refl
+        where
+          go : (o : Bool) → occupiedAt b i ≡ o → areaWord a 5 i ≡ refs (heap b) i
+          go true o = sym (word-is 5 i) ∙ K .counts i o
+          go false o = omega (arith, word-is 5 i, K .linked .blank i p q o .count, refs-unoccupied (heap b) i (K .linked) p o)
+
+  -- the last test decides, once the area and the roots have passed
+  pub last-answer : (n : ℕ) (s t : List ℕ) (r : Bool) → n ≡ room b → AreaOk (area a) → RootsOk b a 16 → LinkTally a s (length a / 6) → RootTally b s t 16
+      → Tells r (CountsOk b a t 0 n) → Tells r (SoundBlock b)
+  last-answer n s t r e A R S T = tells-map r
+      (λ C. let M : Each 0 (room b) (λ i. occupiedAt b i ≡ area a .occupied i) = λ i p q. C i p (omega arith) .mark in parts-sound (record { area-ok = A; marks = M; roots = R; counts = λ i p q. C i p (omega arith) .count ∙ tallied M s t S T i }))
+      (λ Z i p q. let P = sound-parts Z in record { mark = P .marks i p (omega arith); count = P .counts i p (omega arith) ∙ sym (tallied (P .marks) s t S T i) })
+
+-- the part that code takes
+pub part-is : (b : List ℕ) (n : ℕ) → n ≡ room b → take (length b - (17 + n / 32)) (drop (17 + n / 32) b) ≡ nodesOf b
+part-is b n e = take-all (length b - (17 + n / 32)) (drop (17 + n / 32) b) (le-of-eq (length-drop (17 + n / 32) b)) ∙ ap (λ k. drop (17 + k / 32) b) e

@@ -1,0 +1,2 @@
+-- What a test's answer says.
+pub use Rattle.area.specs.Answers.{Tells, Each}

@@ -1,0 +1,5 @@
+pub mod Answers
+pub mod Whole
+pub mod Checks
+pub mod Fresh
+pub mod Heard
