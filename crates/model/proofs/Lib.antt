@@ -21,3 +21,4 @@ pub mod Giveups
 pub mod Wipes
 pub mod Steady
 pub mod Growing
+pub mod Sizes
