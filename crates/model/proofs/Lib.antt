@@ -45,3 +45,4 @@ pub mod Missing
 pub mod Replies
 pub mod Replicas
 pub mod Demand
+pub mod Sizes

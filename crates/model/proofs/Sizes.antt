@@ -1,0 +1,64 @@
+-- Sizes of what the rules make: a rule that keeps the entries keeps their number. No order is needed.
+use mathlib.Core.Path.{_≡_, refl, ap, _∙_}
+use Prim.Native.Nat.{ℕ, suc, _+_, _≤_, compare, Ordering, Ordering·lt, Ordering·eq, Ordering·gt}
+use mathlib.Core.List.{_∷_}
+use lib.ListN.{length, length-append}
+use native.Mathlib.Omega.{arith}
+use Rattle.model.specs.Tree.{Tree, leaf, node, size, entries}
+use Rattle.model.specs.Supply.{Supply, Make, make, given}
+use Rattle.model.specs.Rules.{balanced, insertBy, removeMin, withoutKey, removePresent, join, split}
+use Rattle.model.proofs.Entries.{Keeps, make-keeps, balanced-keeps, join-keeps}
+use Rattle.model.proofs.Edits.{size-length, removeMin-entries, withoutKey-entries}
+
+pub keeps-size : (mk : ℕ → ℕ → Tree → Tree → Make Tree) → Keeps mk → (k v : ℕ) (l r : Tree) (s : Supply) → size (mk k v l r s .0) ≡ suc (size l + size r)
+keeps-size mk keeps k v l r s = size-length (mk k v l r s .0) ∙ ap length (keeps k v l r s) ∙ length-append (entries l) ((k, v) ∷ entries r) ∙ omega (arith, size-length l, size-length r)
+
+pub make-size : (k v : ℕ) (l r : Tree) (s : Supply) → size (make k v l r s .0) ≡ suc (size l + size r)
+make-size = keeps-size make make-keeps
+
+pub balanced-size : (k v : ℕ) (l r : Tree) (s : Supply) → size (balanced k v l r s .0) ≡ suc (size l + size r)
+balanced-size = keeps-size balanced balanced-keeps
+
+pub join-size : (k v : ℕ) (l r : Tree) (s : Supply) → size (join k v l r s .0) ≡ suc (size l + size r)
+join-size = keeps-size join join-keeps
+
+pub removeMin-size : (k v : ℕ) (l r : Tree) (s : Supply) → size (removeMin k v l r s .0 .rest) ≡ size l + size r
+removeMin-size k v l r s =
+    let m = removeMin k v l r s .0 in
+    let e = ap length (removeMin-entries k v l r s) ∙ length-append (entries l) ((k, v) ∷ entries r) in
+    omega (arith, e, size-length (m .rest), size-length l, size-length r)
+
+pub withoutKey-size : (mk : ℕ → ℕ → Tree → Tree → Make Tree) → Keeps mk → (l r : Tree) (s : Supply) → size (withoutKey mk l r s .0) ≡ size l + size r
+withoutKey-size mk keeps l r s = size-length (withoutKey mk l r s .0) ∙ ap length (withoutKey-entries mk keeps l r s) ∙ length-append (entries l) (entries r) ∙ omega (arith, size-length l, size-length r)
+
+pub insertBy-size : (mk : ℕ → ℕ → Tree → Tree → Make Tree) → Keeps mk → (t : Tree) (k v : ℕ) (s : Supply) → size (insertBy mk t k v s .0) ≤ suc (size t)
+unfolding insertBy size
+insertBy-size mk keeps leaf k v s = omega arith
+insertBy-size mk keeps (node i h w l r) k v s = go (compare k h) refl (insertBy-size mk keeps l k v (given i s)) (insertBy-size mk keeps r k v (given i s))
+  where
+    go : (c : Ordering) → compare k h ≡ c → size (insertBy mk l k v (given i s) .0) ≤ suc (size l) → size (insertBy mk r k v (given i s) .0) ≤ suc (size r) → size (insertBy mk (node i h w l r) k v s .0) ≤ suc (suc (size l + size r))
+    go Ordering·lt e x y = let a = insertBy mk l k v (given i s) in rw (e, insertBy) (omega (arith, keeps-size mk keeps h w (a .0) r (a .1)))
+    go Ordering·eq e x y = rw (e, insertBy) (omega (arith, keeps-size mk keeps k v l r (given i s)))
+    go Ordering·gt e x y = let a = insertBy mk r k v (given i s) in rw (e, insertBy) (omega (arith, keeps-size mk keeps h w l (a .0) (a .1)))
+
+pub removePresent-size : (t : Tree) (k : ℕ) (s : Supply) → size (removePresent t k s .0) ≤ size t
+unfolding removePresent size
+removePresent-size leaf k s = omega arith
+removePresent-size (node i h w l r) k s = go (compare k h) refl (removePresent-size l k (given i s)) (removePresent-size r k (given i s))
+  where
+    go : (c : Ordering) → compare k h ≡ c → size (removePresent l k (given i s) .0) ≤ size l → size (removePresent r k (given i s) .0) ≤ size r → size (removePresent (node i h w l r) k s .0) ≤ suc (size l + size r)
+    go Ordering·lt e x y = let a = removePresent l k (given i s) in rw (e, removePresent) (omega (arith, balanced-size h w (a .0) r (a .1)))
+    go Ordering·eq e x y = rw (e, removePresent) (omega (arith, withoutKey-size balanced balanced-keeps l r (given i s)))
+    go Ordering·gt e x y = let a = removePresent r k (given i s) in rw (e, removePresent) (omega (arith, balanced-size h w l (a .0) (a .1)))
+
+-- the two sides of a key together
+pub split-size : (t : Tree) (k : ℕ) (s : Supply) → size (split t k s .0 .left) + size (split t k s .0 .right) ≤ size t
+unfolding split size
+split-size leaf k s = omega arith
+split-size (node i h w l r) k s = go (compare k h) refl (split-size l k (given i s)) (split-size r k (given i s))
+  where
+    go : (c : Ordering) → compare k h ≡ c → size (split l k (given i s) .0 .left) + size (split l k (given i s) .0 .right) ≤ size l → size (split r k (given i s) .0 .left) + size (split r k (given i s) .0 .right) ≤ size r
+        → size (split (node i h w l r) k s .0 .left) + size (split (node i h w l r) k s .0 .right) ≤ suc (size l + size r)
+    go Ordering·lt e x y = let p = split l k (given i s) in rw (e, split) (omega (arith, join-size h w (p .0 .right) r (p .1)))
+    go Ordering·eq e x y = rw (e, split) (omega arith)
+    go Ordering·gt e x y = let p = split r k (given i s) in rw (e, split) (omega (arith, join-size h w l (p .0 .left) (p .1)))

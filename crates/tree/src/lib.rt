@@ -1,0 +1,149 @@
+// The tree rules: the balanced make, insert, remove and lookup.
+use block::Found;
+use block::Made;
+use block::make;
+use block::read;
+use block::size_at;
+ghost use mathlib.Core.Path.{_≡_};
+ghost use Prim.Native.Nat.{ℕ, _+_, _<_};
+ghost use Rattle.model.specs.Tree.{lookup};
+ghost use Rattle.model.specs.Heap.{Named, Occupied, Linked, sizeAt, tree};
+ghost use Rattle.model.specs.Block.{heap, Shaped};
+ghost use Rattle.model.specs.Moves.{Running};
+ghost use Rattle.model.specs.Rules.{twice, rotateLeft, rotateRight, balanced, insertBy};
+ghost use Rattle.block.specs.Outcome.{Outcome, answer};
+ghost use Rattle.tree.specs.Remade.{remade};
+
+// Rotates twice: the middle node goes to the top.
+fn twice(
+    b: &mut [u32],
+    key: u32,
+    value: u32,
+    left: u32,
+    middle: u32,
+    k: u32,
+    v: u32,
+    right: u32,
+) -> Made
+    requires { ⌜ Running (now b) × Named (heap (now b)) left × Occupied (heap (now b)) middle × Named (heap (now b)) right × (sizeAt (heap (now b)) left + sizeAt (heap (now b)) middle + sizeAt (heap (now b)) right + 1 < 1048576) ⌝ }
+    ensures { λ r. ⌜ Outcome (now (b .entry)) (now (b .exit)) r (twice key value (tree (heap (now (b .entry))) left) (tree (heap (now (b .entry))) middle) k v (tree (heap (now (b .entry))) right)) ⌝ }
+{
+    let n = read(b, middle);
+    let Made::At(x) = make(b, key, value, left, n.left) else {
+        return Made::Full;
+    };
+    let Made::At(y) = make(b, k, v, n.right, right) else {
+        return Made::Full;
+    };
+    make(b, n.key, n.value, x, y)
+}
+
+// Right heavy: once if the right child's left weight is below twice its right weight, otherwise twice.
+fn rotate_left(b: &mut [u32], key: u32, value: u32, left: u32, right: u32) -> Made
+    requires { ⌜ Running (now b) × Named (heap (now b)) left × Occupied (heap (now b)) right × (sizeAt (heap (now b)) left + sizeAt (heap (now b)) right < 1048576) ⌝ }
+    ensures { λ r. ⌜ Outcome (now (b .entry)) (now (b .exit)) r (rotateLeft key value (tree (heap (now (b .entry))) left) (tree (heap (now (b .entry))) right)) ⌝ }
+{
+    let n = read(b, right);
+    let left_weight = size_at(b, n.left) + 1;
+    let right_weight = size_at(b, n.right) + 1;
+    if left_weight < 2 * right_weight {
+        let Made::At(x) = make(b, key, value, left, n.left) else {
+            return Made::Full;
+        };
+        return make(b, n.key, n.value, x, n.right);
+    }
+    twice(b, key, value, left, n.left, n.key, n.value, n.right)
+}
+
+// Its mirror.
+fn rotate_right(b: &mut [u32], key: u32, value: u32, left: u32, right: u32) -> Made
+    requires { ⌜ Running (now b) × Occupied (heap (now b)) left × Named (heap (now b)) right × (sizeAt (heap (now b)) left + sizeAt (heap (now b)) right < 1048576) ⌝ }
+    ensures { λ r. ⌜ Outcome (now (b .entry)) (now (b .exit)) r (rotateRight key value (tree (heap (now (b .entry))) left) (tree (heap (now (b .entry))) right)) ⌝ }
+{
+    let n = read(b, left);
+    let left_weight = size_at(b, n.left) + 1;
+    let right_weight = size_at(b, n.right) + 1;
+    if right_weight < 2 * left_weight {
+        let Made::At(x) = make(b, key, value, n.right, right) else {
+            return Made::Full;
+        };
+        return make(b, n.key, n.value, n.left, x);
+    }
+    twice(b, n.key, n.value, n.left, n.right, key, value, right)
+}
+
+// The balanced make of key, value, left and right.
+pub fn balanced(b: &mut [u32], key: u32, value: u32, left: u32, right: u32) -> Made
+    requires { ⌜ Running (now b) × Named (heap (now b)) left × Named (heap (now b)) right × (sizeAt (heap (now b)) left + sizeAt (heap (now b)) right < 1048576) ⌝ }
+    ensures { λ r. ⌜ Outcome (now (b .entry)) (now (b .exit)) r (balanced key value (tree (heap (now (b .entry))) left) (tree (heap (now (b .entry))) right)) ⌝ }
+{
+    let left_size = size_at(b, left);
+    let right_size = size_at(b, right);
+    if left_size + right_size < 2 {
+        return make(b, key, value, left, right);
+    }
+    let left_weight = left_size + 1;
+    let right_weight = right_size + 1;
+    if right_weight > 3 * left_weight {
+        return rotate_left(b, key, value, left, right);
+    }
+    if left_weight > 3 * right_weight {
+        return rotate_right(b, key, value, left, right);
+    }
+    make(b, key, value, left, right)
+}
+
+// A node of insert's path: a new key uses balanced makes, an equal key plain ones.
+fn remake(b: &mut [u32], fresh: bool, key: u32, value: u32, left: u32, right: u32) -> Made
+    requires { ⌜ Running (now b) × Named (heap (now b)) left × Named (heap (now b)) right × (sizeAt (heap (now b)) left + sizeAt (heap (now b)) right < 1048576) ⌝ }
+    ensures { λ r. ⌜ Outcome (now (b .entry)) (now (b .exit)) r (remade fresh key value (tree (heap (now (b .entry))) left) (tree (heap (now (b .entry))) right)) ⌝ }
+{
+    if fresh {
+        return balanced(b, key, value, left, right);
+    }
+    make(b, key, value, left, right)
+}
+
+// Insert below n, which remakes every node on the path, deepest first; `fresh` says that the key is new.
+pub fn insert(b: &mut [u32], fresh: bool, n: u32, key: u32, value: u32) -> Made
+    requires { ⌜ Running (now b) × Named (heap (now b)) n × (sizeAt (heap (now b)) n < 1048575) ⌝ }
+    ensures { λ r. ⌜ Outcome (now (b .entry)) (now (b .exit)) r (insertBy (remade fresh) (tree (heap (now (b .entry))) n) key value) ⌝ }
+{
+    if n == 0 {
+        return make(b, key, value, 0, 0);
+    }
+    let node = read(b, n);
+    if key == node.key {
+        return remake(b, fresh, key, value, node.left, node.right);
+    }
+    if key < node.key {
+        let Made::At(left) = insert(b, fresh, node.left, key, value) else {
+            return Made::Full;
+        };
+        return remake(b, fresh, node.key, node.value, left, node.right);
+    }
+    let Made::At(right) = insert(b, fresh, node.right, key, value) else {
+        return Made::Full;
+    };
+    remake(b, fresh, node.key, node.value, node.left, right)
+}
+
+// The value under a key in the tree below `root`.
+pub fn find(b: &[u32], root: u32, key: u32) -> Found
+    requires { ⌜ Shaped (now b) × Linked (heap (now b)) × Named (heap (now b)) root ⌝ }
+    ensures { λ r. ⌜ answer r ≡ lookup (tree (heap (now (b .entry))) root) key ⌝ }
+{
+    let mut n = root;
+    while n != 0 {
+        let node = read(b, n);
+        if key == node.key {
+            return Found::Value(node.value);
+        }
+        if key < node.key {
+            n = node.left;
+        } else {
+            n = node.right;
+        }
+    }
+    Found::Absent
+}
