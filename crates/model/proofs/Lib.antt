@@ -21,3 +21,5 @@ pub mod Giveups
 pub mod Wipes
 pub mod Steady
 pub mod Growing
+pub mod Versions
+pub mod Ends
