@@ -113,4 +113,3 @@ module _ (n words : ℕ) (F : Fitting words n) where
   pub fresh-empty : (v : ℕ) → version (heap (freshBlock n)) v ≡ leaf
   unfolding tree load
   fresh-empty v = rw (fresh-zero n (1 + v) (omega arith)) refl
-

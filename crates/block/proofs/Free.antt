@@ -6,6 +6,7 @@ use mathlib.Core.List.{List, [], _∷_}
 use Prim.Native.Nat.{ℕ, zero, suc, _+_, _-_, _*_, _/_, _%_, _^_, _≤_, _<_}
 use native.Mathlib.Nat.{add-suc, add-zero, suc-add, zero-add}
 use native.Mathlib.Omega.{arith}
+use native.Mathlib.Decide.{ℕ-discrete}
 use lib.ListN.{getD, drop}
 use lib.Dec.{ltb, eqb}
 use lib.Count.{trailingZeros}
@@ -87,3 +88,25 @@ found-free occ a (suc k) n ns e = go (occ a) refl (found-free occ (suc a) k n ns
         let e′ : a ∷ freeFrom occ (suc a) k ≡ n ∷ ns = rw (o, freeFrom) at e in
         let q : a ≡ n = cc e′ in
         (rw (← q) o, omega arith, omega arith)
+
+-- below the lowest free node all are occupied
+pub below-lowest : (occ : ℕ → Bool) (a k m : ℕ) → a ≤ m → m < firstOf (freeFrom occ a k) → occ m ≡ true
+unfolding freeFrom firstOf
+below-lowest occ a zero m p q = absurd (omega arith)
+below-lowest occ a (suc k) m p q = go (occ a) refl (ℕ-discrete a m) (below-lowest occ (suc a) k m)
+  where
+    go : (t : Bool) → occ a ≡ t → Dec (a ≡ m) → (suc a ≤ m → m < firstOf (freeFrom occ (suc a) k) → occ m ≡ true) → occ m ≡ true
+    go true o (yes e) ih = rw (← e) o
+    go true o (no e) ih = ih (omega arith) (rw (o, freeFrom) at q)
+    go false o d ih = let z : m < a = rw (o, freeFrom) at q in absurd (omega arith)
+
+-- and so are all where none is free
+pub none-free : (occ : ℕ → Bool) (a k m : ℕ) → freeFrom occ a k ≡ [] → a ≤ m → m < a + k → occ m ≡ true
+unfolding freeFrom
+none-free occ a zero m e p q = absurd (omega arith)
+none-free occ a (suc k) m e p q = go (occ a) refl (ℕ-discrete a m) (none-free occ (suc a) k m)
+  where
+    go : (t : Bool) → occ a ≡ t → Dec (a ≡ m) → (freeFrom occ (suc a) k ≡ [] → suc a ≤ m → m < suc a + k → occ m ≡ true) → occ m ≡ true
+    go true o (yes d) ih = rw (← d) o
+    go true o (no d) ih = ih (rw (o, freeFrom) at e) (omega arith) (omega arith)
+    go false o d ih = let z : _≡_ {A = ℕ} 0 1 = cc (rw (o, freeFrom) at e) in absurd (omega arith)

@@ -1,9 +1,11 @@
 // Nodes of the block: making them and giving them up.
+pub mod ends;
+
 ghost use mathlib.Core.Path.{_≡_};
 ghost use Prim.Native.Nat.{ℕ, _+_, _-_, _*_, _/_, _%_, _^_, _<_, _≤_};
 ghost use lib.ListN.{set};
 ghost use Rattle.model.specs.Heap.{Named, Occupied, sizeAt, tree, Linked, lowest};
-ghost use Rattle.model.specs.Moves.{Lowered, Emptied, Owed, Paid, Unnamed, Freed, Raised, Running};
+ghost use Rattle.model.specs.Moves.{Lowered, Emptied, Owed, Paid, Unnamed, Freed, Raised, Running, FullBelow};
 ghost use Rattle.model.specs.Block.{heap, room, word, nodeWord, bit, occupiedAt, Shaped};
 ghost use Rattle.model.specs.Supply.{make};
 ghost use Rattle.block.specs.Words.{written};
@@ -13,6 +15,15 @@ fn wide(x: u32) -> usize
     ensures { λ r. ⌜ r ≡ x ⌝ }
 {
     x as usize
+}
+
+// The root of version v.
+pub fn root(b: &[u32], v: u32) -> u32
+    requires { ⌜ Shaped (now b) × (v < 16) ⌝ }
+    ensures { λ r. ⌜ r ≡ heap (now (b .entry)) .root v ⌝ }
+{
+    let at = (1 + v) as usize;
+    b[at]
 }
 
 // Word j of node n.
@@ -141,6 +152,15 @@ fn lowest_free(b: &[u32]) -> u32
         w += 1;
     }
     0
+}
+
+// Where a call's makes begin: every node below is occupied.
+pub fn makes_from(b: &[u32]) -> u32
+    requires { ⌜ Shaped (now b) ⌝ }
+    ensures { λ r. ⌜ (1 ≤ r) × FullBelow (heap (now (b .entry))) r ⌝ }
+{
+    let n = lowest_free(b);
+    if n == 0 { b[0] + 1 } else { n }
 }
 
 // Node n's bit is set.

@@ -27,7 +27,7 @@ versions-replicated h S few a b batch la lb fits shallow lines expected = replic
     sending = record {
       number = fits;
       short = omega (arith, delta-room h S a b la lb shallow);
-      before = ordered-sorted (version h a) (version-ordered h S a la);
-      after = ordered-sorted (version h b) (version-ordered h S b lb);
+      before = ordered-sorted (version h a) (version-ordered S a la);
+      after = ordered-sorted (version h b) (version-ordered S b lb);
       carries = delta-carries (version h a) (version h b) (versions-one-heap h S a b la lb) shallow;
     }

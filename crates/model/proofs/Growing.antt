@@ -1,6 +1,6 @@
 -- A make, and one rule after another: how a running call keeps to its rule.
 use mathlib.Core.Path.{_≡_, refl, ap, sym, subst, _∙_}
-use Prim.Native.Nat.{ℕ, zero, suc, _<_}
+use Prim.Native.Nat.{ℕ, zero, suc, _≤_, _<_}
 use mathlib.Core.Option.{Option, none, some}
 use mathlib.Core.List.{List, [], _∷_}
 use lib.ListN.{length, getD, drop, length-drop}
@@ -18,7 +18,7 @@ use Rattle.model.proofs.Pinned.{free-head, Taken}
 use Rattle.model.proofs.Steady.{Onward}
 
 pub grown-none : (h : Heap) → Grown h h
-grown-none h = record { room = refl; root = λ v lt. refl; kept = λ m o. o; trees = λ m o. refl }
+grown-none h = record { room = refl; root = λ v lt. refl; kept = λ m o. o; trees = λ m o. refl; rises = λ m o. omega arith }
 
 pub grown-trans : (a b c : Heap) → Grown a b → Grown b c → Grown a c
 grown-trans a b c G H = record {
@@ -26,6 +26,7 @@ grown-trans a b c G H = record {
   root = λ v lt. H .root v lt ∙ G .root v lt;
   kept = λ m o. H .kept m (G .kept m o);
   trees = λ m o. H .trees m (G .kept m o) ∙ G .trees m o;
+  rises = λ m o. omega (arith, G .rises m o, H .rises m (G .kept m o));
 }
 
 -- what stood keeps its size
@@ -58,7 +59,7 @@ pub came-made : (b e : List ℕ) (k v l r n : ℕ) (ns : List ℕ) → Running b
 unfolding taken short
 came-made b e k v l r n ns R S first nl nr M ek ev = record {
   running = record { shaped = S; linked = made-linked h g n l r M (R .linked) nl nr; counts = made-counted h g n l r M (R .linked) nl nr (λ x. 0) refl (R .counts) };
-  grown = record { room = M .except .room; root = M .except .root; kept = still h g n l r M (R .linked) nl nr; trees = made-old h g n l r M (R .linked) nl nr };
+  grown = record { room = M .except .room; root = M .except .root; kept = still h g n l r M (R .linked) nl nr; trees = made-old h g n l r M (R .linked) nl nr; rises = rises };
   gives = λ s F. let q = sym (F .free) ∙ first in (
     sym (made-new h g n l r M (R .linked) nl nr ∙ rw (ek, ev, heads s n ns q .0)),
     record { free = rw (M .except .room) (T .left) ∙ sym (heads s n ns q .1); enough = le-ltb (length (s .free)) (suc (s .makes)) (cons-short s n ns q) },
@@ -70,6 +71,10 @@ came-made b e k v l r n ns R S first nl nr M ek ev = record {
 
     g : Heap
     g = heap e
+
+    rises : (m : ℕ) → Named h m → h .count m ≤ g .count m
+    rises zero o = omega arith
+    rises (suc m) o = omega (arith, M .counts (suc m) o)
 
     T : Taken (h .occupied) (g .occupied) 1 (h .room) n ns
     T = free-head (h .occupied) (g .occupied) 1 (h .room) n ns first (M .occupied) (M .except .occupied)

@@ -46,3 +46,4 @@ pub mod Replies
 pub mod Replicas
 pub mod Demand
 pub mod Sizes
+pub mod Ends

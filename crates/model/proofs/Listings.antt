@@ -199,8 +199,8 @@ versions-one-heap h S v w p q =
       linked = L;
       stands-left = tree-stands h L (h .root v) (L .roots v p);
       stands-right = tree-stands h L (h .root w) (L .roots w q);
-      ordered-left = version-ordered h S v p;
-      ordered-right = version-ordered h S w q;
+      ordered-left = version-ordered S v p;
+      ordered-right = version-ordered S w q;
     }
 
 -- The theorems

@@ -103,7 +103,7 @@ pub insert-puts : {b after : List ℕ} {a : Answer} (dst src key value : ℕ) �
 unfolding Versions
 insert-puts {b} dst src key value E z =
     let D = edit-done (inserting b dst src key value) E z in
-    let o = version-ordered (heap b) (D .sound .sound) src (D .versions .1 .0) in
+    let o = version-ordered (D .sound .sound) src (D .versions .1 .0) in
     (ap entries (D .edited .here) ∙ insert-entries (version (heap b) src) key value (supply (heap b)) o, D .is ∙ ap finding (lookup-entries (version (heap b) src) key o))
 
 -- after remove they are the source's without the key
@@ -112,7 +112,7 @@ pub remove-takes-out : {b after : List ℕ} {a : Answer} (dst src key : ℕ) →
 unfolding Versions
 remove-takes-out {b} dst src key E z =
     let D = edit-done (removing b dst src key) E z in
-    let o = version-ordered (heap b) (D .sound .sound) src (D .versions .1 .0) in
+    let o = version-ordered (D .sound .sound) src (D .versions .1 .0) in
     (ap entries (D .edited .here) ∙ remove-entries (version (heap b) src) key (supply (heap b)) o, D .is ∙ ap finding (lookup-entries (version (heap b) src) key o))
 
 -- after copy they are the source's
@@ -159,7 +159,7 @@ reads-done vs (passes p (passes q (passes u r))) z = (q, u, r)
 -- lookup finds exactly what the entries hold
 pub lookup-finds : {b : List ℕ} {a : Answer} (v key : ℕ) → Lookup b v key a → a .number ≡ 0 → a ≡ finding (find (entries (version (heap b) v)) key)
 unfolding Versions
-lookup-finds {b} v key L z = let D = reads-done (v ∷ []) L z in D .2 ∙ ap finding (lookup-entries (version (heap b) v) key (version-ordered (heap b) (D .0 .sound) v (D .1 .0)))
+lookup-finds {b} v key L z = let D = reads-done (v ∷ []) L z in D .2 ∙ ap finding (lookup-entries (version (heap b) v) key (version-ordered (D .0 .sound) v (D .1 .0)))
 
 -- size is the number of entries
 pub size-counts : {b : List ℕ} {a : Answer} (v : ℕ) → Size b v a → a .number ≡ 0 → a .value ≡ length (entries (version (heap b) v))

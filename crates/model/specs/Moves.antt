@@ -8,7 +8,7 @@ use mathlib.Core.List.{List}
 use lib.ListN.{drop}
 use Rattle.model.specs.Supply.{Supply, Make, short}
 use Rattle.model.specs.Block.{heap, word, room, nodeWord, occupiedAt, Shaped}
-use Rattle.model.specs.Heap.{Heap, Occupied, Named, sizeAt, tree, hit, Linked, Blank, Counted, free}
+use Rattle.model.specs.Heap.{Heap, Occupied, Named, sizeAt, tree, version, hit, Linked, Blank, Counted, Kept, free}
 
 -- g is h but for node n and for counts
 pub record Except (h g : Heap) (n : ℕ) : Type 0 where
@@ -140,6 +140,7 @@ pub record Grown (h g : Heap) : Type 0 where
   pub root : (v : ℕ) → v < 16 → g .root v ≡ h .root v
   pub kept : (m : ℕ) → Named h m → Named g m
   pub trees : (m : ℕ) → Named h m → tree g m ≡ tree h m
+  pub rises : (m : ℕ) → Named h m → h .count m ≤ g .count m
 
 -- the supply has not fallen short, and its next numbers are the free ones, in order
 pub record Stocked (h : Heap) (s : Supply) : Type 0 where
@@ -156,3 +157,33 @@ pub record Came (X : Type 0) (b e : List ℕ) (x : Option X) (m : Make X) : Type
   pub running : Running e
   pub grown : Grown (heap b) (heap e)
   pub gives : (s : Supply) → Stocked (heap b) s → Gives (heap e) x (m s)
+
+-- The end of a call.
+
+-- all nodes below n are occupied: a make takes n or a higher number
+abbrev pub FullBelow : Heap → ℕ → Type 0
+FullBelow h n = (m : ℕ) → 1 ≤ m → m < n → Occupied h m
+
+-- some root or link names each node below n
+abbrev pub HeldBelow : Heap → ℕ → Type 0
+HeldBelow h n = (m : ℕ) → m < n → Occupied h m → 1 ≤ h .count m
+
+-- the nodes below n that nothing names are emptied
+pub record Tidied (b e : List ℕ) (n : ℕ) : Type 0 where
+  pub running : Running e
+  pub gave : Gave (heap b) (heap e)
+  pub held : HeldBelow (heap e) n
+
+-- all nodes that nothing names are emptied
+pub record Swept (b e : List ℕ) : Type 0 where
+  pub shaped : Shaped e
+  pub gave : Gave (heap b) (heap e)
+  pub kept : Kept (heap e)
+
+-- the tree below n is version dst now, and what was made and is not used is given up
+pub record Finished (b e : List ℕ) (dst n : ℕ) : Type 0 where
+  pub shaped : Shaped e
+  pub kept : Kept (heap e)
+  pub room-kept : room e ≡ room b
+  pub here : version (heap e) dst ≡ tree (heap b) n
+  pub others : (v : ℕ) → v < 16 → v ≢ dst → version (heap e) v ≡ version (heap b) v

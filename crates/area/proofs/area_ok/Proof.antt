@@ -6,7 +6,6 @@ use Rattle.area.proofs.area_ok.Reads as reads
 use Rattle.area.proofs.area_ok.Lts as lts
 use Rattle.area.proofs.nodes.nodes_ok.Reads as nodes-ok-reads
 use Rattle.area.proofs.order.orders_ok.Reads as orders-ok-reads
-
 use borrow.Author.Tests.{not-false}
 use mathlib.Core.Path.{sym}
 use mathlib.Core.Bool.{true≢false}

@@ -7,7 +7,6 @@ use Rattle.audit.proofs.audit.Lts as lts
 use Rattle.area.proofs.words.wide.Reads as wide-reads
 use Rattle.audit.proofs.shape.Reads as shape-reads
 use Rattle.audit.proofs.whole.whole_ok.Reads as whole-ok-reads
-
 use Rattle.area.proofs.Answers.{tells-yes, tells-no}
 use Rattle.audit.proofs.Parts.{part-is}
 

@@ -6,7 +6,6 @@ use Rattle.audit.proofs.check.Reads as reads
 use Rattle.audit.proofs.check.Lts as lts
 use Rattle.audit.proofs.audit.Reads as audit-reads
 use Rattle.audit.proofs.shape.Reads as shape-reads
-
 use Rattle.area.proofs.Answers.{tells-yes, tells-no}
 use Rattle.audit.proofs.Verdicts.{verdict-shape, verdict-damaged, verdict-sound}
 

@@ -7,7 +7,6 @@ use Rattle.area.proofs.nodes.nodes_ok.Lts as lts
 use Rattle.area.proofs.nodes.node_ok.Reads as node-ok-reads
 use Rattle.area.proofs.words.bump.Reads as bump-reads
 use Rattle.area.proofs.words.node_word.Reads as node-word-reads
-
 use mathlib.Core.Path.{_≡_, sym, subst, refl}
 use mathlib.Core.Bool.{true≢false}
 use Prim.Native.Nat.{_+_, _-_, _*_, _≤_, _<_}

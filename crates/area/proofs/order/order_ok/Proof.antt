@@ -6,7 +6,6 @@ use Rattle.area.proofs.order.order_ok.Reads as reads
 use Rattle.area.proofs.order.order_ok.Lts as lts
 use Rattle.area.proofs.order.side_ok.Reads as side-ok-reads
 use Rattle.area.proofs.words.node_word.Reads as node-word-reads
-
 use Rattle.area.proofs.Answers.{tells-yes, tells-no, tells-map}
 use Rattle.area.proofs.Area.{live, not-live}
 

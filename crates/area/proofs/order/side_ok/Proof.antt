@@ -6,7 +6,6 @@ use Rattle.area.proofs.order.side_ok.Reads as reads
 use Rattle.area.proofs.order.side_ok.Lts as lts
 use Rattle.area.proofs.order.end_of.Reads as end-of-reads
 use Rattle.area.proofs.words.node_word.Reads as node-word-reads
-
 use mathlib.Core.Path.{sym, subst, _∙_}
 use Prim.Native.Nat.{_-_}
 use Rattle.model.specs.Heap.{Named}

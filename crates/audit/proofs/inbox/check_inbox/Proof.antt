@@ -6,7 +6,6 @@ use Rattle.audit.proofs.inbox.check_inbox.Reads as reads
 use Rattle.audit.proofs.inbox.check_inbox.Lts as lts
 use Rattle.audit.proofs.inbox.inbox_shape.Reads as inbox-shape-reads
 use Rattle.audit.proofs.inbox.inbox_sound.Reads as inbox-sound-reads
-
 use Rattle.area.proofs.Answers.{tells-yes, tells-no}
 use Rattle.audit.proofs.Verdicts.{verdict-shape, verdict-damaged, verdict-sound}
 

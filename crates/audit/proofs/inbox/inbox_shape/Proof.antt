@@ -4,7 +4,6 @@ use Rattle.audit.proofs.inbox.inbox_shape.Statement.{statement}
 use Rattle.audit.proofs.inbox.inbox_shape.Tie as tie
 use Rattle.audit.proofs.inbox.inbox_shape.Reads as reads
 use Rattle.audit.proofs.inbox.inbox_shape.Lts as lts
-
 use lib.ListN.{length}
 use Rattle.area.proofs.Answers.{tells-eqb}
 

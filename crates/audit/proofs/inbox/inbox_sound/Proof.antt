@@ -7,7 +7,6 @@ use Rattle.audit.proofs.inbox.inbox_sound.Lts as lts
 use Rattle.area.proofs.words.wide.Reads as wide-reads
 use Rattle.audit.proofs.inbox.inbox_shape.Reads as inbox-shape-reads
 use Rattle.audit.proofs.inbox.word_clear.Reads as word-clear-reads
-
 use mathlib.Core.Path.{_≡_, subst}
 use Prim.Native.Nat.{ℕ, _-_, _≤_, _<_}
 use Rattle.area.proofs.Answers.{tells-yes, tells-no}

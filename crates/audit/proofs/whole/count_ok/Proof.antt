@@ -6,7 +6,6 @@ use Rattle.audit.proofs.whole.count_ok.Reads as reads
 use Rattle.audit.proofs.whole.count_ok.Lts as lts
 use Rattle.area.proofs.words.node_word.Reads as node-word-reads
 use Rattle.area.proofs.words.wide.Reads as wide-reads
-
 use mathlib.Core.Path.{sym, _∙_}
 use Rattle.audit.proofs.Marks.{count-dead, count-live}
 

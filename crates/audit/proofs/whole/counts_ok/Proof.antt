@@ -5,7 +5,6 @@ use Rattle.audit.proofs.whole.counts_ok.Tie as tie
 use Rattle.audit.proofs.whole.counts_ok.Reads as reads
 use Rattle.audit.proofs.whole.counts_ok.Lts as lts
 use Rattle.audit.proofs.whole.word_ok.Reads as word-ok-reads
-
 use mathlib.Core.Path.{_≡_, ap, subst, _∙_}
 use Prim.Native.Nat.{_+_, _-_, _*_, _/_, _%_, _≤_}
 use Rattle.model.specs.Block.{occupiedAt}

@@ -7,7 +7,6 @@ use Rattle.audit.proofs.whole.roots_ok.Lts as lts
 use Rattle.area.proofs.words.bump.Reads as bump-reads
 use Rattle.area.proofs.words.named.Reads as named-reads
 use Rattle.area.proofs.words.wide.Reads as wide-reads
-
 use mathlib.Core.Path.{_≡_, refl, sym, subst}
 use mathlib.Core.Bool.{true≢false}
 use Prim.Native.Nat.{_+_, _-_, _≤_, _<_}

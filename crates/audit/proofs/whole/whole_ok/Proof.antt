@@ -7,7 +7,6 @@ use Rattle.audit.proofs.whole.whole_ok.Lts as lts
 use Rattle.area.proofs.area_ok.Reads as area-ok-reads
 use Rattle.audit.proofs.whole.counts_ok.Reads as counts-ok-reads
 use Rattle.audit.proofs.whole.roots_ok.Reads as roots-ok-reads
-
 use borrow.Author.Tests.{not-false}
 use mathlib.Core.Path.{_≡_, refl, sym, subst, _∙_}
 use Prim.Native.Nat.{_*_, _/_, _≤_}

@@ -6,7 +6,6 @@ use Rattle.audit.proofs.whole.word_ok.Reads as reads
 use Rattle.audit.proofs.whole.word_ok.Lts as lts
 use Rattle.area.proofs.words.wide.Reads as wide-reads
 use Rattle.audit.proofs.whole.count_ok.Reads as count-ok-reads
-
 use mathlib.Core.Path.{_≡_, ap, sym, subst, _∙_}
 use Prim.Native.Nat.{_+_, _-_, _*_, _/_, _^_, _≤_, _<_}
 use Rattle.model.specs.Block.{word, room, occupiedAt}

@@ -1,0 +1,69 @@
+-- A call from entry to exit, whatever its rule: carried out, or refused for room with every word as at entry.
+use mathlib.Core.Path.{_≡_, ap, sym, _∙_}
+use mathlib.Core.Logic.{_≢_}
+use Prim.Native.Nat.{ℕ, _≤_, _<_}
+use mathlib.Core.Bool.{true, false}
+use mathlib.Core.List.{List}
+use native.Mathlib.Decide.{ℕ-discrete}
+use Rattle.model.specs.Tree.{Tree, leaf, Ordered}
+use Rattle.model.specs.Supply.{Make, done, short}
+use Rattle.model.specs.Heap.{load, tree, version, supply}
+use Rattle.model.specs.Block.{heap, Words, SoundBlock}
+use Rattle.model.specs.Moves.{Grown, FullBelow, HeldBelow, Swept, Finished}
+use Rattle.model.specs.Calls.{Edited, Refused, Carried}
+use Rattle.model.proofs.Sorts.{sound-by-versions}
+use Rattle.model.proofs.Pinned.{undone}
+use Rattle.model.proofs.Growing.{stocked-supply}
+use Rattle.model.proofs.Versions.{sound-running, version-ordered, version-named, grown-version, gave-version}
+use Rattle.model.proofs.Ends.{held-from}
+use Rattle.block.specs.declared.Made.{Made}
+use Rattle.block.specs.declared.Made.the-variants.{At, Full}
+use Rattle.block.specs.Outcome.{Outcome}
+use Rattle.block.proofs.Outcomes.{out-tree, out-done}
+
+module _ {b : List ℕ} (B : SoundBlock b) where
+  -- what the end of the call asks of the nodes below those that it made
+  pub held : {e : List ℕ} {q : Made} {rule : Make Tree} {from : ℕ} → FullBelow (heap b) from → Outcome b e q rule → HeldBelow (heap e) from
+  held F O = held-from (B .sound .kept) F (O .came .grown) (O .came .running)
+
+  -- the end of a call in which version d became t
+  ended : {e after : List ℕ} {d n : ℕ} {t : Tree} → Grown (heap b) (heap e) → tree (heap e) n ≡ t → Ordered t → Finished e after d n → Edited b after d t
+  ended {e} {after} {d} {n} {t} G is o F = record {
+    sound = record { shaped = F .shaped; sound = sound-by-versions (heap after) (F .kept) (λ v lt. ordered v lt (ℕ-discrete v d)) };
+    room-kept = F .room-kept ∙ G .room;
+    here = F .here ∙ is;
+    others = others;
+  }
+    where
+      others : (v : ℕ) → v < 16 → v ≢ d → version (heap after) v ≡ version (heap b) v
+      others v lt ne = F .others v lt ne ∙ grown-version (B .sound .kept .linked) G v lt
+
+      ordered : (v : ℕ) → v < 16 → Dec (v ≡ d) → Ordered (version (heap after) v)
+      ordered v lt (yes p) = rw (ap (version (heap after)) p ∙ F .here ∙ is) o
+      ordered v lt (no p) = rw (others v lt p) (version-ordered (B .sound) v lt)
+
+  -- success is never short of room
+  pub enough : {e : List ℕ} {n : ℕ} {rule : Make Tree} → Outcome b e (At n) rule → short (rule (supply (heap b)) .1) ≡ false
+  enough O = O .came .gives (supply (heap b)) (stocked-supply (heap b)) .1 .enough
+
+  pub carried : {e after : List ℕ} {d n : ℕ} {rule : Make Tree} → Outcome b e (At n) rule → Ordered (rule (supply (heap b)) .0) → Finished e after d n → Carried b after d rule
+  carried {e} {after} {d} {n} {rule} O o F = record { enough = enough O; edited = ended (O .came .grown) (out-tree b e n rule O) o F }
+
+  pub refused : {e after : List ℕ} {rule : Make Tree} → Outcome b e Full rule → Swept e after → Words b → Words after → Refused b after rule
+  refused {e} {after} {rule} O W wb wa = record { short = O .came .gives (supply (heap b)) (stocked-supply (heap b)); same = undone b after B sound (W .gave .room ∙ O .came .grown .room) same wb wa }
+    where
+      same : (v : ℕ) → v < 16 → version (heap after) v ≡ version (heap b) v
+      same v lt = gave-version (W .gave) v lt ∙ grown-version (B .sound .kept .linked) (O .came .grown) v lt
+
+      sound : SoundBlock after
+      sound = record { shaped = W .shaped; sound = sound-by-versions (heap after) (W .kept) (λ v lt. rw (same v lt) (version-ordered (B .sound) v lt)) }
+
+  -- the calls that make nothing: one version becomes another, or empty
+  pub copied : {after : List ℕ} {d n : ℕ} (v : ℕ) → v < 16 → n ≡ heap b .root v → Finished b after d n → Carried b after d (done (version (heap b) v))
+  copied {after} {d} {n} v lt e F =
+      let O : Outcome b b (At n) (done (version (heap b) v)) = rw (← e) (out-done b n (sound-running B) (version-named B v n lt e)) in
+      carried O (version-ordered (B .sound) v lt) F
+
+  pub cleared : {after : List ℕ} {d : ℕ} → Finished b after d 0 → Carried b after d (done leaf)
+  unfolding tree load Ordered
+  cleared F = carried (out-done b 0 (sound-running B) tt) tt F
