@@ -16,18 +16,20 @@ use Rattle.model.proofs.Deltas.{delta-carries}
 use Rattle.model.proofs.DeltaRoom.{delta-room}
 use Rattle.model.proofs.Replicas.{replica}
 
+-- the delta of two versions is what a batch may send
+pub versions-sent : (h : Heap) → Sound h → h .room ≤ 4096 → (a b batch : ℕ) → a < 16 → b < 16 → batch < 2 ^ 32 → deltaDeep (version h a) (version h b) ≡ false
+    → Sending batch (entries (version h a)) (entries (version h b)) (delta (version h a) (version h b))
+versions-sent h S few a b batch la lb fits shallow = record {
+  number = fits;
+  short = omega (arith, delta-room h S a b la lb shallow);
+  before = ordered-sorted (version h a) (version-ordered S a la);
+  after = ordered-sorted (version h b) (version-ordered S b lb);
+  carries = delta-carries (version h a) (version h b) (versions-one-heap h S a b la lb) shallow;
+}
+
 -- any lines, each a frame of the batch or of another one, in any order, repeated, lost or refused for room: complete exactly when every frame was accepted
 -- at least once; the entries then equal B's; until then each key stands as in A or as in B
 pub versions-replicated : (h : Heap) → Sound h → h .room ≤ 4096 → (a b batch : ℕ) → a < 16 → b < 16 → batch < 2 ^ 32 → deltaDeep (version h a) (version h b) ≡ false
     → (lines : List Arrival) → AllExpected batch (frames batch (version h a) (version h b)) lines
     → Replica batch (entries (version h a)) (entries (version h b)) (delta (version h a) (version h b)) lines (hears (started batch (entries (version h a))) lines)
-versions-replicated h S few a b batch la lb fits shallow lines expected = replica sending lines expected
-  where
-    sending : Sending batch (entries (version h a)) (entries (version h b)) (delta (version h a) (version h b))
-    sending = record {
-      number = fits;
-      short = omega (arith, delta-room h S a b la lb shallow);
-      before = ordered-sorted (version h a) (version-ordered S a la);
-      after = ordered-sorted (version h b) (version-ordered S b lb);
-      carries = delta-carries (version h a) (version h b) (versions-one-heap h S a b la lb) shallow;
-    }
+versions-replicated h S few a b batch la lb fits shallow lines expected = replica (versions-sent h S few a b batch la lb fits shallow) lines expected

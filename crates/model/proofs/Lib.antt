@@ -45,5 +45,7 @@ pub mod Missing
 pub mod Replies
 pub mod Replicas
 pub mod Demand
+pub mod Receiving
+pub mod Standbys
 pub mod Sizes
 pub mod Ends

@@ -1,9 +1,14 @@
 -- For every input of every call there is one possible answer and one possible block afterwards.
 use mathlib.Core.Path.{_≡_, sym, _∙_}
 use Prim.Native.Nat.{ℕ}
+use mathlib.Core.Bool.{Bool, true, false}
+use mathlib.Core.Option.{Option, none, some}
 use mathlib.Core.List.{List}
 use Rattle.model.specs.Block.{Words}
 use Rattle.model.specs.Calls.{Check, fails, passes, Answer, Edit, Reads, Edits, Fresh}
+use Rattle.model.specs.Frame.{Frame, parse}
+use Rattle.model.specs.Inbox.{heardAt}
+use Rattle.model.specs.Link.{Parse, Begin, Missing, Heard, Step, unchanged, Takes, Says, Receive}
 use Rattle.model.proofs.Pinned.{edited-once}
 
 -- a check goes one way
@@ -30,3 +35,42 @@ edits-once b x y e a c wx wy A C = check-once A C kept (λ A C. check-once A C k
 
 pub fresh-once : (b x y : List ℕ) (n : ℕ) (a c : Answer) → Fresh b x n a → Fresh b y n c → (a ≡ c) × (x ≡ y)
 fresh-once b x y n a c A C = check-once A C (λ p q. (p .0 ∙ sym (q .0), p .1 ∙ sym (q .1))) (λ p q. (p .0 ∙ sym (q .0), p .1 ∙ sym (q .1)))
+
+-- the calls of the link
+
+pub parse-once : (said : Option Frame) (n m : ℕ) (f g : Frame) → Parse said n f → Parse said m g → (n ≡ m) × (f ≡ g)
+parse-once none n m f g p q = (p .0 ∙ sym (q .0), p .1 ∙ sym (q .1))
+parse-once (some h) n m f g p q = (p .0 ∙ sym (q .0), p .1 ∙ sym (q .1))
+
+pub begin-once : (x y z : List ℕ) (batch n m : ℕ) → Begin x y batch n → Begin x z batch m → (n ≡ m) × (y ≡ z)
+begin-once x y z batch n m A C = check-once A C (λ p q. (p .0 ∙ sym (q .0), p .1 ∙ sym (q .1))) (λ p q. (p .0 ∙ sym (q .0), p .1 ∙ sym (q .1)))
+
+pub missing-once : (x : List ℕ) (n m i j : ℕ) → Missing x n i → Missing x m j → (n ≡ m) × (i ≡ j)
+missing-once x n m i j A C = check-once A C same (λ A C. check-once A C same same)
+  where
+    same : {u w : ℕ} → (n ≡ u) × (i ≡ w) → (m ≡ u) × (j ≡ w) → (n ≡ m) × (i ≡ j)
+    same p q = (p .0 ∙ sym (q .0), p .1 ∙ sym (q .1))
+
+module _ (b x b1 b2 x1 x2 : List ℕ) (v : ℕ) (a c : Heard) (w1 : Words b1) (w2 : Words b2) where
+  abbrev s : Step
+  s = record { block = b; inbox = x; block′ = b1; inbox′ = x1; answer = a }
+
+  abbrev t : Step
+  t = record { block = b; inbox = x; block′ = b2; inbox′ = x2; answer = c }
+
+  abbrev Same : Type 0
+  Same = (a ≡ c) × (b1 ≡ b2) × (x1 ≡ x2)
+
+  unchanged-once : {h : Heard} → unchanged s h → unchanged t h → Same
+  unchanged-once p q = (p .0 ∙ sym (q .0), p .1 ∙ sym (q .1), p .2 ∙ sym (q .2))
+
+  takes-once : (f : Frame) (heard : Bool) → Takes s v f heard → Takes t v f heard → Same
+  takes-once f true A C = unchanged-once A C
+  takes-once f false A C = check-once A C unchanged-once (λ p q. (p .0 ∙ sym (q .0), edited-once b b1 b2 v _ (p .1) (q .1) w1 w2, p .2 ∙ sym (q .2)))
+
+  says-once : (said : Option Frame) → Says s v said → Says t v said → Same
+  says-once none A C = unchanged-once A C
+  says-once (some f) A C = check-once A C unchanged-once (λ A C. check-once A C unchanged-once (takes-once f (heardAt x (f .index))))
+
+  pub receive-once : (line : List ℕ) → Receive s v line → Receive t v line → Same
+  receive-once line A C = check-once A C unchanged-once (λ A C. check-once A C unchanged-once (λ A C. check-once A C unchanged-once (λ A C. check-once A C unchanged-once (λ A C. check-once A C unchanged-once (says-once (parse line))))))

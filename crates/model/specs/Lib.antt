@@ -11,3 +11,4 @@ pub mod Inbox
 pub mod Replica
 pub mod Moves
 pub mod Calls
+pub mod Link

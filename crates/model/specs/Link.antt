@@ -1,0 +1,116 @@
+-- What the calls of the link answer: parse, begin, receive and the missing question.
+use mathlib.Core.Path.{_≡_}
+use mathlib.Core.Logic.{_≢_, _⊎_, _↔_}
+use Prim.Native.Nat.{ℕ, zero, suc, _<_}
+use mathlib.Core.Bool.{Bool, true, false}
+use mathlib.Core.Option.{Option, none, some}
+use mathlib.Core.List.{List, [], _∷_}
+use lib.ListN.{length}
+use Rattle.model.specs.Tree.{Tree, entries, find}
+use Rattle.model.specs.Supply.{Make, done, short}
+use Rattle.model.specs.Rules.{insert, remove}
+use Rattle.model.specs.Heap.{version, supply}
+use Rattle.model.specs.Block.{heap, Shaped, SoundBlock}
+use Rattle.model.specs.Frame.{Frame, parse, frames}
+use Rattle.model.specs.Inbox.{batchOf, countOf, heardAt, SoundInbox, begun, marked, missing, question, Complete}
+use Rattle.model.specs.Numbers.{SHAPE, DAMAGED, VERSION, NO_ROOM, FRAME, BATCH, COUNT}
+use Rattle.model.specs.Replica.{Expected}
+use Rattle.model.specs.Calls.{Check, Edited}
+
+-- parse gives FRAME, or the six fields
+abbrev pub Parse : (said : Option Frame) (number : ℕ) (fields : Frame) → Type 0
+Parse none number fields = (number ≡ FRAME) × (fields ≡ record { batch = 0; index = 0; count = 0; kind = 0; key = 0; value = 0 })
+Parse (some f) number fields = (number ≡ 0) × (fields ≡ f)
+
+-- begin checks the length only, then writes the batch and zeros
+abbrev pub Begin : (x after : List ℕ) (batch number : ℕ) → Type 0
+Begin x after batch number = Check (length x ≡ 130) ((number ≡ SHAPE) × (after ≡ x)) ((number ≡ 0) × (after ≡ begun batch))
+
+-- the missing question on its own
+abbrev pub Missing : (x : List ℕ) (number missing : ℕ) → Type 0
+Missing x number missing =
+    Check (length x ≡ 130) ((number ≡ SHAPE) × (missing ≡ 0)) (Check (SoundInbox x) ((number ≡ DAMAGED) × (missing ≡ 0)) ((number ≡ 0) × (missing ≡ question x)))
+
+-- what receive answers: its number, 1 for a repeat, and how many are missing
+pub record Heard : Type 0 where
+  pub number : ℕ
+  pub again : ℕ
+  pub missing : ℕ
+
+-- the edit of a frame
+unfoldable pub frameRule : Frame → Tree → Make Tree
+frameRule f t = elim (f .kind) [
+  | zero ↦ done t
+  | suc k ↦ elim k [ zero ↦ insert t (f .key) (f .value) | suc j ↦ remove t (f .key) ]
+]
+
+-- the block and the inbox before and after a line, and the answer
+pub record Step : Type 0 where
+  pub block : List ℕ
+  pub inbox : List ℕ
+  pub block′ : List ℕ
+  pub inbox′ : List ℕ
+  pub answer : Heard
+
+-- nothing has changed
+abbrev pub unchanged : Step → Heard → Type 0
+unchanged s a = (s .answer ≡ a) × (s .block′ ≡ s .block) × (s .inbox′ ≡ s .inbox)
+
+-- a refusal returns its number and zeros
+abbrev pub turnedAway : Step → ℕ → Type 0
+turnedAway s n = unchanged s (record { number = n; again = 0; missing = 0 })
+
+-- an index already heard changes nothing; else the edit is done, if it finds room, and the index is marked
+abbrev pub Takes : Step → (v : ℕ) → Frame → (heard : Bool) → Type 0
+Takes s v f true = unchanged s (record { number = 0; again = 1; missing = missing (s .inbox) })
+Takes s v f false =
+    Check (short (frameRule f (version (heap (s .block)) v) (supply (heap (s .block))) .1) ≡ false) (turnedAway s NO_ROOM)
+    ((s .answer ≡ record { number = 0; again = 0; missing = missing (marked (s .inbox) (f .count) (f .index)) })
+    × Edited (s .block) (s .block′) v (frameRule f (version (heap (s .block)) v) (supply (heap (s .block))) .0)
+    × (s .inbox′ ≡ marked (s .inbox) (f .count) (f .index)))
+
+-- a line that says nothing is malformed; else batch and count are checked
+abbrev pub Says : Step → (v : ℕ) → Option Frame → Type 0
+Says s v none = turnedAway s FRAME
+Says s v (some f) =
+    Check (f .batch ≡ batchOf (s .inbox)) (turnedAway s BATCH)
+    (Check ((countOf (s .inbox) ≡ 0) ⊎ (countOf (s .inbox) ≡ f .count)) (turnedAway s COUNT) (Takes s v f (heardAt (s .inbox) (f .index))))
+
+-- shape and soundness, block before inbox in each; version; then the line
+abbrev pub Receive : Step → (v : ℕ) (line : List ℕ) → Type 0
+Receive s v line =
+    Check (Shaped (s .block)) (turnedAway s SHAPE)
+    (Check (length (s .inbox) ≡ 130) (turnedAway s SHAPE)
+    (Check (SoundBlock (s .block)) (turnedAway s DAMAGED)
+    (Check (SoundInbox (s .inbox)) (turnedAway s DAMAGED)
+    (Check (v < 16) (turnedAway s VERSION) (Says s v (parse line))))))
+
+-- Lines one after another.
+
+-- what a standby has after hearing lines: its block and its inbox
+pub data Hearing (v : ℕ) : (block inbox : List ℕ) → List (List ℕ) → (block′ inbox′ : List ℕ) → Type 0 where
+  still : {b x : List ℕ} → Hearing v b x [] b x
+  then : {b x b′ x′ c y : List ℕ} {line : List ℕ} {lines : List (List ℕ)} (answer : Heard) → Receive (record { block = b; inbox = x; block′ = b′; inbox′ = x′; answer = answer }) v line → Hearing v b′ x′ lines c y → Hearing v b x (line ∷ lines) c y
+
+-- frame i has been accepted at least once: some line that says it was answered 0
+unfoldable pub AcceptedIn : {v : ℕ} {b x : List ℕ} {lines : List (List ℕ)} {c y : List ℕ} → Hearing v b x lines c y → ℕ → Type 0
+AcceptedIn still i = ⊥
+AcceptedIn (then {line = line} answer r later) i = (((f : Frame) × (parse line ≡ some f) × (f .index ≡ i)) × (answer .number ≡ 0)) ⊎ AcceptedIn later i
+
+-- each line is malformed, of another batch, or one of the frames
+unfoldable pub Sent : (batch : ℕ) → List Frame → List (List ℕ) → Type 0
+Sent batch fs [] = Unit {0}
+Sent batch fs (line ∷ lines) = ((f : Frame) → parse line ≡ some f → Expected batch fs f) × Sent batch fs lines
+
+-- Demand 3. A standby that held A's entries in version v of its block b, began the batch and heard these lines has come to the block c and the inbox y.
+pub record Replicated (A B : Tree) (batch v : ℕ) (b : List ℕ) {lines : List (List ℕ)} {c y : List ℕ} (run : Hearing v b (begun batch) lines c y) : Type 0 where
+  -- it reports complete exactly when each frame has been accepted at least once
+  pub complete : Complete y ↔ ((i : ℕ) → i < length (frames batch A B) → AcceptedIn run i)
+  -- its entries then equal B's exactly
+  pub equal : Complete y → entries (version (heap c) v) ≡ entries B
+  -- and until then every key stands as in A or as in B
+  pub between : (k : ℕ) → (find (entries (version (heap c) v)) k ≡ find (entries A) k) ⊎ (find (entries (version (heap c) v)) k ≡ find (entries B) k)
+  -- no other version changes, and block and inbox stay sound
+  pub others : (w : ℕ) → w < 16 → w ≢ v → version (heap c) w ≡ version (heap b) w
+  pub sound-block : SoundBlock c
+  pub sound-inbox : SoundInbox y

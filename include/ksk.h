@@ -1,0 +1,87 @@
+/* The reservation table: call numbers to minutes, sixteen versions in one lent block of 32-bit words.
+ *
+ * Every call answers a number, 0 for done. A refusal leaves every lent word and byte as it was, and sets every field
+ * behind a pointer to 0. A slice is a pointer and a length, in words or in bytes; a slice of length 0 may have any
+ * pointer that is not NULL. No two slices or pointers of one call may overlap.
+ */
+#ifndef KSK_H
+#define KSK_H
+
+#include <stddef.h>
+#include <stdint.h>
+
+#ifdef __cplusplus
+extern "C" {
+#endif
+
+/* Numbers a call gives back, in the order in which they are checked: 1, 2, 3, 4, 7, 8, 9, 6, 5. */
+#define KSK_DONE     0u
+#define KSK_SHAPE    1u /* block length or N is wrong, or inbox not 130 words */
+#define KSK_DAMAGED  2u /* block not sound, or inbox not sound */
+#define KSK_VERSION  3u /* a version number above 15 */
+#define KSK_RULE     4u /* unknown rule, or cancelling with difference rule 2 */
+#define KSK_NO_ROOM  5u /* the call would make more nodes than are free */
+#define KSK_TOO_DEEP 6u /* a listing walk has more than 64 pending items on one side */
+#define KSK_FRAME    7u /* line malformed */
+#define KSK_BATCH    8u /* another batch number */
+#define KSK_COUNT    9u /* inbox count not zero and unlike the frame's */
+
+/* Sizes. N, the number of nodes, is a multiple of 32 from 32 to 4,096. */
+#define KSK_VERSIONS       16u
+#define KSK_BLOCK_WORDS(n) (17u + (n) / 32u + 6u * (n))
+#define KSK_INBOX_WORDS    130u
+#define KSK_ENTRY_WORDS    4u  /* a listing's entry: key, left value, 1 if common else 0, right value or 0 */
+#define KSK_LINE_BYTES     35u /* a frame's line: 34 digits and a newline */
+#define KSK_UNKNOWN        4294967295u /* what ksk_missing gives while the count is unknown */
+
+/* Writes N and zeros: sixteen empty versions. */
+uint32_t ksk_fresh(uint32_t *block, size_t words, uint32_t n);
+
+/* The value under a key: found is 1 or 0. */
+uint32_t ksk_lookup(const uint32_t *block, size_t words, uint32_t version, uint32_t key, uint32_t *found, uint32_t *value);
+
+/* The number of entries. */
+uint32_t ksk_size(const uint32_t *block, size_t words, uint32_t version, uint32_t *size);
+
+/* Version dest becomes version source with value under key; had and old tell what stood there. */
+uint32_t ksk_insert(uint32_t *block, size_t words, uint32_t dest, uint32_t source, uint32_t key, uint32_t value, uint32_t *had, uint32_t *old);
+
+/* Version dest becomes version source without key; an absent key acts as copy. */
+uint32_t ksk_remove(uint32_t *block, size_t words, uint32_t dest, uint32_t source, uint32_t key, uint32_t *had, uint32_t *old);
+
+/* Version dest becomes version source. */
+uint32_t ksk_copy(uint32_t *block, size_t words, uint32_t dest, uint32_t source);
+
+/* A version becomes empty. */
+uint32_t ksk_clear(uint32_t *block, size_t words, uint32_t version);
+
+/* Version dest becomes the union. Rule for a common key: 0 left, 1 right, 2 smaller, 3 larger, 4 sum held at 4,294,967,295. */
+uint32_t ksk_union(uint32_t *block, size_t words, uint32_t dest, uint32_t left, uint32_t right, uint32_t rule);
+
+/* Version dest becomes left less right. Rule for a common key: 0 drop; 1 drop if equal, else left; 2 left; 3 left minus right if larger, else drop.
+ * With cancel 1 shared nodes are skipped, which saves time and changes no result; it may not go with rule 2. */
+uint32_t ksk_difference(uint32_t *block, size_t words, uint32_t dest, uint32_t left, uint32_t right, uint32_t rule, uint32_t cancel);
+
+/* Lists version left against version right: entries from index start on while four words remain. written counts words; total is the listing's length. */
+uint32_t ksk_list(const uint32_t *block, size_t words, uint32_t left, uint32_t right, uint32_t start, uint32_t *out, size_t out_words, uint32_t *written, uint32_t *total);
+
+/* The lines that carry version from to version to, under a batch number: lines from index start on while 35 bytes remain. written counts bytes. */
+uint32_t ksk_frames(const uint32_t *block, size_t words, uint32_t from, uint32_t to, uint32_t batch, uint32_t start, uint8_t *out, size_t out_bytes, uint32_t *written, uint32_t *total);
+
+/* Reads one line: 35 bytes, the newline included. */
+uint32_t ksk_parse(const uint8_t *line, size_t bytes, uint32_t *batch, uint32_t *index, uint32_t *count, uint32_t *kind, uint32_t *key, uint32_t *value);
+
+/* Makes the inbox ready for a batch: nothing heard. */
+uint32_t ksk_begin(uint32_t *inbox, size_t words, uint32_t batch);
+
+/* Hears one line: does its edit in the version and marks its index. repeat is 1 for an index heard before; missing is how many are still to come, 0 when complete. */
+uint32_t ksk_receive(uint32_t *block, size_t words, uint32_t *inbox, size_t inbox_words, uint32_t version, const uint8_t *line, size_t bytes, uint32_t *repeat, uint32_t *missing);
+
+/* How many lines are missing; KSK_UNKNOWN while no line has been accepted. */
+uint32_t ksk_missing(const uint32_t *inbox, size_t words, uint32_t *missing);
+
+#ifdef __cplusplus
+}
+#endif
+
+#endif
