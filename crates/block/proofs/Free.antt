@@ -13,7 +13,7 @@ use lib.Count.{trailingZeros}
 use borrow.Author.Tests.{lt-ltb, eqb-false, ne-eqb}
 use Rattle.model.specs.Block.{word, room, bit, occupiedAt, Shaped}
 use Rattle.model.specs.Heap.{freeFrom, firstOf}
-use Rattle.block.proofs.Bits.{below-all-set, at-clear}
+use Rattle.model.proofs.Bits.{below-all-set, at-clear}
 
 -- nodes that are taken are passed over
 skip : (occ : ℕ → Bool) (m a k : ℕ) → ((x : ℕ) → a ≤ x → x < a + m → occ x ≡ true) → freeFrom occ a (m + k) ≡ freeFrom occ (a + m) k

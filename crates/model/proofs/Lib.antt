@@ -18,7 +18,6 @@ pub mod Pinned
 pub mod Bits
 pub mod Lists
 pub mod Giveups
-pub mod Wipes
 pub mod Steady
 pub mod Growing
 pub mod Versions

@@ -99,16 +99,6 @@ pub record Unnamed (h : Heap) (n : ℕ) : Type 0 where
   pub extra : ℕ → ℕ
   pub counts : Counted h extra
 
--- node n of b has been freed in e, and its first j words made zero
-pub record Wiping (b e : List ℕ) (n j : ℕ) : Type 0 where
-  pub shaped : Shaped e
-  pub room-kept : room e ≡ room b
-  pub root : (v : ℕ) → v < 16 → word e (1 + v) ≡ word b (1 + v)
-  pub occupied : (m : ℕ) → m ≢ n → occupiedAt e m ≡ occupiedAt b m
-  pub free : occupiedAt e n ≡ false
-  pub words : (i m : ℕ) → i < 6 → m ≢ n → nodeWord e i m ≡ nodeWord b i m
-  pub zeros : (i : ℕ) → i < j → nodeWord e i n ≡ 0
-
 -- one reference more to n, or none where n is 0
 pub record Raised (h g : Heap) (n : ℕ) : Type 0 where
   pub same : Same h g
@@ -116,13 +106,13 @@ pub record Raised (h g : Heap) (n : ℕ) : Type 0 where
   pub none : g .count 0 ≡ h .count 0
   pub counts : (m : ℕ) → 1 ≤ m → g .count m ≡ h .count m + hit n m
 
--- node n of b has been taken in e, and its first j words are those of xs
-pub record Writing (b e : List ℕ) (n : ℕ) (xs : ℕ → ℕ) (j : ℕ) : Type 0 where
+-- node n of b has its bit set or cleared in e, and its first j words are those of xs
+pub record Writing (b e : List ℕ) (n : ℕ) (taken : Bool) (xs : ℕ → ℕ) (j : ℕ) : Type 0 where
   pub shaped : Shaped e
   pub room-kept : room e ≡ room b
   pub root : (v : ℕ) → v < 16 → word e (1 + v) ≡ word b (1 + v)
   pub occupied : (m : ℕ) → m ≢ n → occupiedAt e m ≡ occupiedAt b m
-  pub taken : occupiedAt e n ≡ true
+  pub bit : occupiedAt e n ≡ taken
   pub words : (i m : ℕ) → i < 6 → m ≢ n → nodeWord e i m ≡ nodeWord b i m
   pub here : (i : ℕ) → i < j → nodeWord e i n ≡ xs i
 
