@@ -3,7 +3,7 @@ use mathlib.Core.Path.{_≡_, refl, ap, sym, _∙_}
 use mathlib.Core.Logic.{_≢_}
 use Prim.Native.Nat.{ℕ, zero, suc, _+_, _*_, _/_, _≤_, _<_}
 use mathlib.Core.Bool.{true, false, true≢false}
-use mathlib.Core.List.{List, [], _∷_}
+use mathlib.Core.List.{List, _∷_}
 use lib.ListN.{drop}
 use native.Mathlib.Omega.{arith}
 use native.Mathlib.Decide.{ℕ-discrete}
@@ -17,7 +17,7 @@ use Rattle.block.specs.Outcome.{Outcome, nodeOf}
 use Rattle.block.specs.declared.Node.{Node}
 use Rattle.block.specs.declared.Made.the-variants.{At}
 use Rattle.block.proofs.Free.{found-cons, found-free}
-use Rattle.block.proofs.Writes.{fields, writing-except}
+use Rattle.block.proofs.Writes.{fields, Unoccupied, writing-except}
 
 -- How many references there can be
 
@@ -47,15 +47,13 @@ named-le b (suc n) L o = L .within (suc n) o .1
 -- n is the lowest free node, as code has found it
 pub record Lowest (b : List ℕ) (n : ℕ) : Type 0 where
   pub first : free (heap b) ≡ n ∷ drop 1 (free (heap b))
-  pub free : occupiedAt b n ≡ false
-  pub low : 1 ≤ n
-  pub high : n ≤ room b
+  pub node : Unoccupied b n
 
-pub lowest-found : {b : List ℕ} {n : ℕ} → n ≡ lowest (heap b) → n ≢ 0 → Lowest b n
-lowest-found {b} {n} e ne =
+pub lowest-found : {b : List ℕ} {n : ℕ} → Shaped b → n ≡ lowest (heap b) → n ≢ 0 → Lowest b n
+lowest-found {b} {n} B e ne =
     let first = found-cons (free (heap b)) n e ne in
     let f = found-free (occupiedAt b) 1 (room b) n (drop 1 (free (heap b))) first in
-    record { first = first; free = f .0; low = f .1; high = omega (arith, f .2) }
+    record { first = first; node = record { shaped = B; low = f .1; high = omega (arith, f .2); free = f .0 } }
 
 -- the words of node n are written in e; its children l and r are still to be counted
 pub record Making (b e : List ℕ) (n k v l r : ℕ) : Type 0 where
@@ -70,10 +68,10 @@ module _ {b e : List ℕ} {n k v l r : ℕ} (M : Making b e n k v l r) where
   W = M .wrote
 
   occupied-other : (m : ℕ) → Occupied (heap b) m → m ≢ n
-  occupied-other m o e = true≢false (sym o ∙ ap (occupiedAt b) e ∙ M .lowest .free)
+  occupied-other m o e = true≢false (sym o ∙ ap (occupiedAt b) e ∙ M .lowest .node .free)
 
   named-other : (m : ℕ) → Named (heap b) m → m ≢ n
-  named-other zero o e = absurd (omega (arith, M .lowest .low))
+  named-other zero o e = absurd (omega (arith, M .lowest .node .low))
   named-other (suc m) o e = occupied-other (suc m) o e
 
   -- a child's count has room for one more
@@ -101,9 +99,9 @@ module _ {b e : List ℕ} {n k v l r : ℕ} (M : Making b e n k v l r) where
 
       made : Made (heap b) (heap g) n l r
       made = record {
-        free = M .lowest .free;
-        low = M .lowest .low;
-        high = M .lowest .high;
+        free = M .lowest .node .free;
+        low = M .lowest .node .low;
+        high = M .lowest .node .high;
         except = record {
           room = C .1 .same .room ∙ A .1 .same .room ∙ E .room;
           root = λ v lt. C .1 .root v lt ∙ A .1 .root v lt ∙ E .root v lt;
@@ -118,7 +116,7 @@ module _ {b e : List ℕ} {n k v l r : ℕ} (M : Making b e n k v l r) where
         left = C .1 .same .left n ∙ A .1 .same .left n ∙ W .here 2 (omega arith);
         right = C .1 .same .right n ∙ A .1 .same .right n ∙ W .here 3 (omega arith);
         size = C .1 .same .size n ∙ A .1 .same .size n ∙ W .here 4 (omega arith) ∙ omega arith;
-        count = omega (arith, raised n (M .lowest .low), W .here 5 (omega arith), hit-no l n (named-other l (M .left)), hit-no r n (named-other r (M .right)));
+        count = omega (arith, raised n (M .lowest .node .low), W .here 5 (omega arith), hit-no l n (named-other l (M .left)), hit-no r n (named-other r (M .right)));
         counts = λ m o. omega (arith, raised m (M .running .linked .within m o .0), W .words 5 m (omega arith) (occupied-other m o));
         blanks = blanks;
       }

@@ -62,6 +62,8 @@ module _ (b : List ℕ) (B : Shaped b) (n y : ℕ) (taken : Bool) (lt : n < room
   bit-marked : Writing b marked (suc n) taken xs 0
   bit-marked = record {
     shaped = record { least = rw room-marked (B .least); most = rw room-marked (B .most); whole = rw room-marked (B .whole); long = rw room-marked (length-set b (17 + n / 32) y ∙ B .long) };
+    low = omega arith;
+    high = rw room-marked lt;
     room-kept = room-marked;
     root = λ v l. getD-set-other b (17 + n / 32) (1 + v) y 0 (omega arith);
     occupied = others-marked;
@@ -70,18 +72,25 @@ module _ (b : List ℕ) (B : Shaped b) (n y : ℕ) (taken : Bool) (lt : n < room
     here = λ i l. absurd (omega arith);
   }
 
--- what setting node n's bit asks, and what it leaves
-pub take-asks : {b : List ℕ} (n : ℕ) → Shaped b → 1 ≤ n → n ≤ room b → occupiedAt b n ≡ false → Shaped b × (1 ≤ n) × (n ≤ room b) × (bit (word b (17 + (n - 1) / 32)) ((n - 1) % 32) ≡ 0)
-take-asks zero B low high z = absurd (omega arith)
-take-asks {b} (suc n) B low high z = let e : suc n - 1 ≡ n = omega arith in (B, low, high, rw e (bit-zero b n high z))
+-- a node that a make can take
+pub record Unoccupied (b : List ℕ) (n : ℕ) : Type 0 where
+  pub shaped : Shaped b
+  pub low : 1 ≤ n
+  pub high : n ≤ room b
+  pub free : occupiedAt b n ≡ false
 
-pub took : {b e : List ℕ} (n : ℕ) (xs : ℕ → ℕ) → Shaped b → 1 ≤ n → n ≤ room b → occupiedAt b n ≡ false → e ≡ set b (17 + (n - 1) / 32) (word b (17 + (n - 1) / 32) + 2 ^ ((n - 1) % 32)) → Writing b e n true xs 0
-took zero xs B low high z q = absurd (omega arith)
-took {b} (suc n) xs B low high z q =
+-- what setting its bit asks, and what that leaves
+pub take-asks : {b : List ℕ} (n : ℕ) → Unoccupied b n → Shaped b × (1 ≤ n) × (n ≤ room b) × (bit (word b (17 + (n - 1) / 32)) ((n - 1) % 32) ≡ 0)
+take-asks zero F = absurd (omega (arith, F .low))
+take-asks {b} (suc n) F = let e : suc n - 1 ≡ n = omega arith in (F .shaped, F .low, F .high, rw e (bit-zero b n (F .high) (F .free)))
+
+pub took : {b e : List ℕ} (n : ℕ) (xs : ℕ → ℕ) → Unoccupied b n → e ≡ set b (17 + (n - 1) / 32) (word b (17 + (n - 1) / 32) + 2 ^ ((n - 1) % 32)) → Writing b e n true xs 0
+took zero xs F q = absurd (omega (arith, F .low))
+took {b} (suc n) xs F q =
     let e : suc n - 1 ≡ n = omega arith in
     let x = word b (17 + n / 32) in
-    let o = bit-zero b n high z in
-    rw (q, e) (bit-marked b B n (x + 2 ^ (n % 32)) true high (rw (bit-set-same (n % 32) x o)) (λ i ne. bit-set-other (n % 32) i x o ne) xs)
+    let o = bit-zero b n (F .high) (F .free) in
+    rw (q, e) (bit-marked b (F .shaped) n (x + 2 ^ (n % 32)) true (F .high) (rw (bit-set-same (n % 32) x o)) (λ i ne. bit-set-other (n % 32) i x o ne) xs)
 
 -- and the same of clearing it
 pub free-asks : {b : List ℕ} (n : ℕ) → Shaped b → Occupied (heap b) n → Shaped b × (1 ≤ n) × (n ≤ room b) × (bit (word b (17 + (n - 1) / 32)) ((n - 1) % 32) ≡ 1)
@@ -107,36 +116,36 @@ fields k v l r s (suc (suc (suc (suc zero)))) = s
 fields k v l r s (suc (suc (suc (suc (suc j))))) = 0
 
 -- one more word
-step : {b e : List ℕ} {n j : ℕ} {taken : Bool} {xs : ℕ → ℕ} (x p : ℕ) → Writing b e n taken xs j → 1 ≤ n → n ≤ room b → j < 6 → p ≡ 11 + room b / 32 + 6 * n + j → x ≡ xs j → Writing b (set e p x) n taken xs (suc j)
-step {b} {e} {n} {j} {taken} {xs} x p W low high six at is = go n W low high at
+step : {b e : List ℕ} (n : ℕ) {j : ℕ} {taken : Bool} {xs : ℕ → ℕ} (x p : ℕ) → Writing b e n taken xs j → j < 6 → p ≡ 11 + room e / 32 + 6 * n + j → x ≡ xs j → Writing b (set e p x) n taken xs (suc j)
+step zero x p W six at is = absurd (omega (arith, W .low))
+step {b} {e} (suc n) {j} {taken} {xs} x p W six at is =
+    let q : p ≡ spot e n j = omega arith in
+    rw q (record {
+      shaped = shaped-set e (W .shaped) n j x (W .high) six;
+      low = W .low;
+      high = rw (room-set e (W .shaped) n j x (W .high) six) (W .high);
+      room-kept = room-set e (W .shaped) n j x (W .high) six ∙ W .room-kept;
+      root = λ v l. root-set e (W .shaped) n j x (W .high) six v l ∙ W .root v l;
+      occupied = λ m ne. occupied-set e (W .shaped) n j x (W .high) six m ∙ W .occupied m ne;
+      bit = occupied-set e (W .shaped) n j x (W .high) six (suc n) ∙ W .bit;
+      words = λ i m l ne. node-set-other e (W .shaped) n j x (W .high) six i m l ne ∙ W .words i m l ne;
+      here = λ i l. go i l (ℕ-discrete i j);
+    })
   where
-    go : (n : ℕ) → Writing b e n taken xs j → 1 ≤ n → n ≤ room b → p ≡ 11 + room b / 32 + 6 * n + j → Writing b (set e p x) n taken xs (suc j)
-    go zero W low high at = absurd (omega arith)
-    go (suc n) W low high at =
-        let q : p ≡ spot e n j = omega (arith, W .room-kept) in
-        let lt : n < room e = omega (arith, W .room-kept) in
-        let same : (i : ℕ) → i < suc j → Dec (i ≡ j) → nodeWord (set e (spot e n j) x) i (suc n) ≡ xs i = λ i l d. elim d [ yes d ↦ rw d (node-set-same e (W .shaped) n j x lt six ∙ is) | no d ↦ node-set-word e (W .shaped) n j x lt six i (suc n) (omega arith) d ∙ W .here i (omega arith) ] in
-        rw q (record {
-          shaped = shaped-set e (W .shaped) n j x lt six;
-          room-kept = room-set e (W .shaped) n j x lt six ∙ W .room-kept;
-          root = λ v l. root-set e (W .shaped) n j x lt six v l ∙ W .root v l;
-          occupied = λ m ne. occupied-set e (W .shaped) n j x lt six m ∙ W .occupied m ne;
-          bit = occupied-set e (W .shaped) n j x lt six (suc n) ∙ W .bit;
-          words = λ i m l ne. node-set-other e (W .shaped) n j x lt six i m l ne ∙ W .words i m l ne;
-          here = λ i l. same i l (ℕ-discrete i j);
-        })
+    go : (i : ℕ) → i < suc j → Dec (i ≡ j) → nodeWord (set e (spot e n j) x) i (suc n) ≡ xs i
+    go i l (yes d) = rw d (node-set-same e (W .shaped) n j x (W .high) six ∙ is)
+    go i l (no d) = node-set-word e (W .shaped) n j x (W .high) six i (suc n) (omega arith) d ∙ W .here i (omega arith)
 
-pub wrote : {b e f : List ℕ} {n : ℕ} {taken : Bool} (k v l r s : ℕ) → Writing b e n taken (fields k v l r s) 0 → 1 ≤ n → n ≤ room b → f ≡ written e (11 + room e / 32 + 6 * n) k v l r s → Writing b f n taken (fields k v l r s) 6
+pub wrote : {b e f : List ℕ} (n : ℕ) {taken : Bool} (k v l r s : ℕ) → Writing b e n taken (fields k v l r s) 0 → f ≡ written e (11 + room e / 32 + 6 * n) k v l r s → Writing b f n taken (fields k v l r s) 6
 unfolding written
-wrote {b} {e} {f} {n} k v l r s W0 low high q =
+wrote {b} {e} n k v l r s W0 q =
     let p = 11 + room e / 32 + 6 * n in
-    let same = W0 .room-kept in
-    let W1 = step k p W0 low high (omega arith) (omega arith) refl in
-    let W2 = step v (p + 1) W1 low high (omega arith) (omega arith) refl in
-    let W3 = step l (p + 2) W2 low high (omega arith) (omega arith) refl in
-    let W4 = step r (p + 3) W3 low high (omega arith) (omega arith) refl in
-    let W5 = step s (p + 4) W4 low high (omega arith) (omega arith) refl in
-    rw q (step 0 (p + 5) W5 low high (omega arith) (omega arith) refl)
+    let W1 = step n k p W0 (omega arith) (omega arith) refl in
+    let W2 = step n v (p + 1) W1 (omega arith) (omega (arith, W0 .room-kept, W1 .room-kept)) refl in
+    let W3 = step n l (p + 2) W2 (omega arith) (omega (arith, W0 .room-kept, W2 .room-kept)) refl in
+    let W4 = step n r (p + 3) W3 (omega arith) (omega (arith, W0 .room-kept, W3 .room-kept)) refl in
+    let W5 = step n s (p + 4) W4 (omega arith) (omega (arith, W0 .room-kept, W4 .room-kept)) refl in
+    rw q (step n 0 (p + 5) W5 (omega arith) (omega (arith, W0 .room-kept, W5 .room-kept)) refl)
 
 pub writing-except : {b e : List ℕ} {n j : ℕ} {taken : Bool} {xs : ℕ → ℕ} → Writing b e n taken xs j → Except (heap b) (heap e) n
 writing-except {b} {e} {n} W = record { room = W .room-kept; root = W .root; occupied = W .occupied; key = words 0 (omega arith); value = words 1 (omega arith); left = words 2 (omega arith); right = words 3 (omega arith); size = words 4 (omega arith) }

@@ -1,17 +1,16 @@
 -- The end of a call: the new root is counted and set, the old one given up, and what nothing names is emptied.
 use mathlib.Core.Path.{_≡_, refl, ap, sym, subst, _∙_}
 use mathlib.Core.Logic.{_≢_}
-use Prim.Native.Nat.{ℕ, zero, suc, _+_, _*_, _/_, _%_, _≤_, _<_}
-use mathlib.Core.Bool.{Bool, true, false, true≢false, _&&_}
+use Prim.Native.Nat.{ℕ, zero, suc, _+_, _*_, _/_, _≤_, _<_}
+use mathlib.Core.Bool.{Bool, true, false, true≢false}
 use mathlib.Core.List.{List}
-use lib.ListN.{length, getD, set, length-set}
+use lib.ListN.{set, length-set}
 use lib.Seq.{getD-set-same, getD-set-other}
-use lib.Dec.{eqb, ltb}
 use native.Mathlib.Omega.{arith}
 use native.Mathlib.Decide.{ℕ-discrete}
 use Rattle.model.specs.Heap.{Heap, Occupied, Named, tree, version, hit, Linked, Counted, Kept}
-use Rattle.model.specs.Block.{word, room, nodeWord, bit, occupiedAt, heap, Shaped}
-use Rattle.model.specs.Moves.{Same, Rooted, Raised, Gave, Owed, Paid, Freed, Unnamed, Running, Grown, FullBelow, HeldBelow, Tidied, Swept, Finished}
+use Rattle.model.specs.Block.{room, nodeWord, occupiedAt, heap, Shaped}
+use Rattle.model.specs.Moves.{Rooted, Raised, Gave, Owed, Paid, Freed, Running, Grown, FullBelow, HeldBelow, Tidied, Swept, Finished}
 use Rattle.model.proofs.Counts.{hit-no}
 use Rattle.model.proofs.Giving.{same-linked, same-trees, same-refs, rooted-counted, gave-trans}
 use Rattle.model.proofs.Versions.{gave-version}

@@ -2,15 +2,14 @@
 use mathlib.Core.Path.{_≡_, refl, ap, sym, _∙_}
 use mathlib.Core.Logic.{_≢_}
 use Prim.Native.Nat.{ℕ, zero, suc, _+_, _≤_, _<_}
-use mathlib.Core.Bool.{Bool, true, false, false≢true}
-use mathlib.Core.List.{List, [], _∷_}
+use mathlib.Core.Bool.{Bool, true, false}
+use mathlib.Core.List.{List, _∷_}
 use native.Mathlib.Omega.{arith}
 use native.Mathlib.Decide.{ℕ-discrete}
 use Rattle.model.specs.Tree.{Tree}
-use Rattle.model.specs.Heap.{version}
+use Rattle.model.specs.Heap.{version, freeFrom}
 use Rattle.model.specs.Block.{heap, room, Words, SoundBlock}
 use Rattle.model.specs.Calls.{Edited}
-use Rattle.model.specs.Heap.{freeFrom}
 use Rattle.model.proofs.Unique.{unique}
 
 pub edited-once : (b x y : List ℕ) (dst : ℕ) (t : Tree) → Edited b x dst t → Edited b y dst t → Words x → Words y → x ≡ y

@@ -109,6 +109,8 @@ pub record Raised (h g : Heap) (n : ℕ) : Type 0 where
 -- node n of b has its bit set or cleared in e, and its first j words are those of xs
 pub record Writing (b e : List ℕ) (n : ℕ) (taken : Bool) (xs : ℕ → ℕ) (j : ℕ) : Type 0 where
   pub shaped : Shaped e
+  pub low : 1 ≤ n
+  pub high : n ≤ room e
   pub room-kept : room e ≡ room b
   pub root : (v : ℕ) → v < 16 → word e (1 + v) ≡ word b (1 + v)
   pub occupied : (m : ℕ) → m ≢ n → occupiedAt e m ≡ occupiedAt b m

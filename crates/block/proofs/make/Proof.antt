@@ -2,9 +2,11 @@
 use native.Mathlib.Omega.{arith}
 use borrow.Author.Needs.{needs}
 use mathlib.Core.Path.{sym, _∙_}
-use Prim.Native.Nat.{_+_}
+use mathlib.Core.Bool.{true}
+use Prim.Native.Nat.{ℕ, _+_}
 use Rattle.model.specs.Block.{heap, room, occupiedAt}
 use Rattle.model.specs.Heap.{tree, sizeAt}
+use Rattle.model.specs.Moves.{Writing}
 use Rattle.model.proofs.Growing.{came-full}
 use Rattle.block.proofs.Free.{found-none}
 use Rattle.block.proofs.Writes.{fields, take-asks, took, wrote}
@@ -15,26 +17,36 @@ use Rattle.block.proofs.make.Tie as tie
 abbrev entry : tie.Else1 → tie.Start
 entry c = c .before .before .before .before
 
-abbrev found-at : tie.After-write → tie.Else1
-found-at c = c .before .before .before .before .before .before .before .before .before .before
+abbrev found-at : tie.After-take-bit → tie.Else1
+found-at c = c .before .before .before .before .before .before
+
+abbrev taken-at : tie.After-write → tie.After-take-bit
+taken-at c = c .before .before .before .before
 
 -- the node that was found
 found : (c : tie.Else1) → Lowest (entry c .args .b .now) (c .before .lowest-free .result)
-found c = lowest-found (c .before .lowest-free .ensures) (c .if1 .left)
+found c = lowest-found (entry c .pre .0 .shaped) (c .before .lowest-free .ensures) (c .if1 .left)
 
--- what is known when its words are written
-making : (c : tie.After-write) → let a = entry (found-at c) .args in Making (a .b .now) (c .write .last .0) (found-at c .before .lowest-free .result) (a .key) (a .value) (a .left) (a .right)
+-- its bit is set
+taken : (c : tie.After-take-bit) (xs : ℕ → ℕ) → Writing (entry (found-at c) .args .b .now) (c .take-bit .last .0) (found-at c .before .lowest-free .result) true xs 0
+taken c xs = took (found-at c .before .lowest-free .result) xs (found (found-at c) .node) (c .take-bit .ensures)
+
+-- its words are written
+making : (c : tie.After-write) → let at = found-at (taken-at c) in let a = entry at .args in Making (a .b .now) (c .write .last .0) (at .before .lowest-free .result) (a .key) (a .value) (a .left) (a .right)
 making c =
-    let at = found-at c in
-    let st = entry at in
-    let b = st .args .b .now in
-    let n = at .before .lowest-free .result in
-    let F = found at in
-    let left = c .before .before .before .before .before .before .before .before .size-at .ensures in
-    let right = c .before .before .before .before .before .before .size-at2 .ensures in
-    let xs = fields (st .args .key) (st .args .value) (st .args .left) (st .args .right) (sizeAt (heap b) (st .args .left) + sizeAt (heap b) (st .args .right) + 1) in
-    let bit = took n xs (st .pre .0 .shaped) (F .low) (F .high) (F .free) (c .before .before .before .before .take-bit .ensures) in
-    record { running = st .pre .0; lowest = F; left = st .pre .1; right = st .pre .2; wrote = wrote (st .args .key) (st .args .value) (st .args .left) (st .args .right) _ bit (F .low) (F .high) (rw (← left, ← right) (c .write .ensures)) }
+    let at = found-at (taken-at c) in
+    let a = entry at .args in
+    let h = heap (a .b .now) in
+    let left = taken-at c .before .before .before .before .size-at .ensures in
+    let right = taken-at c .before .before .size-at2 .ensures in
+    let xs = fields (a .key) (a .value) (a .left) (a .right) (sizeAt h (a .left) + sizeAt h (a .right) + 1) in
+    record {
+      running = entry at .pre .0;
+      lowest = found at;
+      left = entry at .pre .1;
+      right = entry at .pre .2;
+      wrote = wrote (at .before .lowest-free .result) (a .key) (a .value) (a .left) (a .right) _ (taken (taken-at c) xs) (rw (← left, ← right) (c .write .ensures));
+    }
 
 lowest-free-requires : tie.Need-lowest-free-requires
 lowest-free-requires c κs = search needs
@@ -63,17 +75,10 @@ add-size-2 : tie.Need-add-size-2
 add-size-2 c = search needs
 
 take-bit-requires : tie.Need-take-bit-requires
-take-bit-requires c κs =
-    let at = c .before .before .before .before .before in
-    let F = found at in
-    take-asks (at .before .lowest-free .result) (entry at .pre .0 .shaped) (F .low) (F .high) (F .free)
+take-bit-requires c κs = let at = c .before .before .before .before .before in take-asks (at .before .lowest-free .result) (found at .node)
 
 write-requires : tie.Need-write-requires
-write-requires c κs =
-    let at = c .before .before .before .before .before .before .before .before .before in
-    let F = found at in
-    let bit = took (at .before .lowest-free .result) (λ x. x) (entry at .pre .0 .shaped) (F .low) (F .high) (F .free) (c .before .before .before .take-bit .ensures) in
-    (bit .shaped, F .low, omega (arith, F .high, bit .room-kept))
+write-requires c κs = let bit = taken (c .before .before .before) (λ x. x) in (bit .shaped, bit .low, bit .high)
 
 raise-requires : tie.Need-raise-requires
 raise-requires c κs = left-asks (making (c .before .before .before))

@@ -77,7 +77,7 @@ empty-give-up-requires t c κs =
     let at = c .before .before .before in
     let st = at .before .before .before .before .before .before .before in
     let asks = left-asks (emptying t at) in
-    (subst (λ j. 2 * sizeAt (heap (at .clear .last .0)) (at .before .before .before .before .node-word .result) + 1 < j) (st .pre .0) (asks .0), (at .clear .ensures .0, asks .1, asks .2))
+    (omega (arith, asks .0, st .pre .0), (at .clear .ensures .0, asks .1, asks .2))
 
 empty-give-up-requires-2 : (t : ℕ) → empty-lts.Need-give-up-requires-2 (in-empty t) (empty-at t) empty.Post
 empty-give-up-requires-2 t c κs =
@@ -85,7 +85,7 @@ empty-give-up-requires-2 t c κs =
     let at = c .before .before .before .before .before .before .before in
     let st = at .before .before .before .before .before .before .before in
     let asks = right-asks (emptying t at) (left .ensures .1) in
-    (subst (λ j. 2 * sizeAt (heap (left .last .0)) (at .before .before .node-word2 .result) + 1 < j) (st .pre .0) (asks .0), (left .ensures .0, asks .1, asks .2))
+    (omega (arith, asks .0, st .pre .0), (left .ensures .0, asks .1, asks .2))
 
 empty-same-length : (t : ℕ) → empty-lts.Need-same-length (in-empty t) (empty-at t) empty.Post
 empty-same-length t c = search needs
@@ -117,7 +117,7 @@ give-up-empty-requires t c κs =
     let at = c .before .before .before .before in
     let st = at .before .before .before .before in
     let asks = empty-asks (lowering t at) (c .before .if2 .taken) in
-    (subst (λ j. 2 * heap (at .lower .last .0) .size (st .args .n) < j) (st .pre .0) (asks .0), (at .lower .ensures .0, asks .1, asks .2))
+    (omega (arith, asks .0, st .pre .0), (at .lower .ensures .0, asks .1, asks .2))
 
 give-up-same-length : (t : ℕ) → give-up-lts.Need-same-length (in-give-up t) (give-up-at t) give-up.Post
 give-up-same-length t c = search needs
