@@ -45,10 +45,10 @@ add-result-2 c = search needs
 
 returns : tie.Need-returns Inv-loop μ-loop
 returns c =
-    let a = c .before .before .before .before .before .args in
-    let w = c .before .before .before .loop .w in
-    sym (in-word (a .b .now) w (omega (arith, c .before .shared-slice-known2 .given (17 + w))) (c .before .before .before .before .before .pre .whole) (omega arith) (c .if1 .taken))
-    ∙ ap firstOf (c .before .before .before .loop .inv .2)
+    let st = c .before .before .before .before .before in
+    let at = c .before .before .before .loop in
+    let fits = c .before .shared-slice-known2 .given (17 + at .w) in
+    sym (in-word (st .args .b .now) (at .w) (omega arith) (st .pre .whole) (omega arith) (c .if1 .taken)) ∙ ap firstOf (at .inv .2)
 
 add-w : tie.Need-add-w Inv-loop μ-loop
 add-w c = search needs
@@ -58,16 +58,17 @@ loop-less c = search needs
 
 loop-again : tie.Need-loop-again Inv-loop μ-loop
 loop-again c =
-    let a = c .before .before .before .before .before .args in
-    let w = c .before .before .before .loop .w in
-    (c .before .before .before .loop .inv .0, omega arith, sym (over-word (a .b .now) w (omega (arith, c .before .shared-slice-known2 .given (17 + w))) (c .before .before .before .before .before .pre .whole) (omega arith) (c .if1 .left)) ∙ c .before .before .before .loop .inv .2)
+    let st = c .before .before .before .before .before in
+    let at = c .before .before .before .loop in
+    let fits = c .before .shared-slice-known2 .given (17 + at .w) in
+    (at .inv .0, omega arith, sym (over-word (st .args .b .now) (at .w) (omega arith) (st .pre .whole) (omega arith) (c .if1 .left)) ∙ at .inv .2)
 
 returns-2 : tie.Need-returns-2 Inv-loop μ-loop
 returns-2 c =
-    let a = c .before .before .before .args in
-    let w = c .before .loop .w in
-    let z : room (a .b .now) - 32 * w ≡ 0 = omega arith in
-    sym (none-left (occupiedAt (a .b .now)) (suc (32 * w))) ∙ ap (λ k. firstOf (freeFrom (occupiedAt (a .b .now)) (suc (32 * w)) k)) (sym z) ∙ ap firstOf (c .before .loop .inv .2)
+    let b = c .before .before .before .args .b .now in
+    let at = c .before .loop in
+    let none : room b - 32 * at .w ≡ 0 = omega arith in
+    sym (none-left (occupiedAt b) (suc (32 * at .w))) ∙ ap (λ k. firstOf (freeFrom (occupiedAt b) (suc (32 * at .w)) k)) (sym none) ∙ ap firstOf (at .inv .2)
 
 pub lowest-free-spec : {M : Type 1} → statement M
 lowest-free-spec =
