@@ -136,7 +136,7 @@ module _ {b e : List ℕ} {n k v l r : ℕ} (M : Making b e n k v l r) where
       makes =
           let key = C .1 .same .key n ∙ A .1 .same .key n ∙ W .here 0 (omega arith) in
           let value = C .1 .same .value n ∙ A .1 .same .value n ∙ W .here 1 (omega arith) in
-          record { named = named-occupied (heap g) n (made .occupied); came = came-made b g k v l r n (drop 1 (free (heap b))) (M .running) (C .0) (M .lowest .first) (M .left) (M .right) made key value }
+          record { named = named-occupied (heap g) n (made .occupied); came = came-made (M .running) (C .0) (M .lowest .first) (M .left) (M .right) made key value }
 
 -- a node's words as code reads them
 pub node-is : (b : List ℕ) (n : ℕ) → 1 ≤ n → _≡_ {A = Node} (record { key = word b (11 + room b / 32 + 6 * n); value = word b (11 + room b / 32 + 6 * n + 1); left = word b (11 + room b / 32 + 6 * n + 2); right = word b (11 + room b / 32 + 6 * n + 3) }) (nodeOf (heap b) n)

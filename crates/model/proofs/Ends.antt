@@ -50,7 +50,7 @@ sized {b} {n} R p q ne = go (occupiedAt b n) refl
     go true e = e
     go false e = absurd (ne (R .linked .blank n p q e .size))
 
--- what the calls before made stands from `from` on: below it all had references at entry, and counts only rise
+-- a call makes no node below `from`: those that stand there had references at entry, and counts only rise
 pub held-from : {b e : List ℕ} {from : ℕ} → Kept (heap b) → FullBelow (heap b) from → Grown (heap b) (heap e) → Running e → HeldBelow (heap e) from
 held-from {b} {e} K F G R zero lt o = absurd (omega (arith, R .linked .within 0 o))
 held-from {b} {e} K F G R (suc m) lt o =

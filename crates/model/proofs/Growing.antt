@@ -54,10 +54,10 @@ named-occupied h zero o = tt
 named-occupied h (suc n) o = o
 
 -- the node of the lowest free number was made
-pub came-made : (b e : List ℕ) (k v l r n : ℕ) (ns : List ℕ) → Running b → Shaped e → free (heap b) ≡ n ∷ ns → Named (heap b) l → Named (heap b) r → Made (heap b) (heap e) n l r → heap e .key n ≡ k → heap e .value n ≡ v
+pub came-made : {b e : List ℕ} {k v l r n : ℕ} {ns : List ℕ} → Running b → Shaped e → free (heap b) ≡ n ∷ ns → Named (heap b) l → Named (heap b) r → Made (heap b) (heap e) n l r → heap e .key n ≡ k → heap e .value n ≡ v
     → Came Tree b e (some (tree (heap e) n)) (make k v (tree (heap b) l) (tree (heap b) r))
 unfolding taken short
-came-made b e k v l r n ns R S first nl nr M ek ev = record {
+came-made {b} {e} {k} {v} {l} {r} {n} {ns} R S first nl nr M ek ev = record {
   running = record { shaped = S; linked = made-linked M (R .linked) nl nr; counts = made-counted M (R .linked) nl nr (λ x. 0) refl (R .counts) };
   grown = record { room = M .except .room; root = M .except .root; kept = still M (R .linked) nl nr; trees = made-old M (R .linked) nl nr; rises = rises };
   gives = λ s F. let q = sym (F .free) ∙ first in (
@@ -66,23 +66,17 @@ came-made b e k v l r n ns R S first nl nr M ek ev = record {
   );
 }
   where
-    h : Heap
-    h = heap b
-
-    g : Heap
-    g = heap e
-
-    rises : (m : ℕ) → Named h m → h .count m ≤ g .count m
+    rises : (m : ℕ) → Named (heap b) m → heap b .count m ≤ heap e .count m
     rises zero o = omega arith
     rises (suc m) o = omega (arith, M .counts (suc m) o)
 
-    T : Taken (h .occupied) (g .occupied) 1 (h .room) n ns
-    T = free-head (h .occupied) (g .occupied) 1 (h .room) n ns first (M .occupied) (M .except .occupied)
+    T : Taken (heap b .occupied) (heap e .occupied) 1 (heap b .room) n ns
+    T = free-head (heap b .occupied) (heap e .occupied) 1 (heap b .room) n ns first (M .occupied) (M .except .occupied)
 
 -- no number is free
-pub came-full : (b : List ℕ) (k v : ℕ) (l r : Tree) → Running b → free (heap b) ≡ [] → Came Tree b b none (make k v l r)
+pub came-full : {b : List ℕ} {k v : ℕ} {l r : Tree} → Running b → free (heap b) ≡ [] → Came Tree b b none (make k v l r)
 unfolding taken short
-came-full b k v l r R empty = record {
+came-full {b} R empty = record {
   running = R;
   grown = grown-none;
   gives = λ s F. lt-ltb (length (s .free)) (suc (s .makes)) (omega (arith, simp length-drop at (ap length (sym (F .free) ∙ empty))));

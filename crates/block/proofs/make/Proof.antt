@@ -5,7 +5,7 @@ use mathlib.Core.Path.{sym, _∙_}
 use mathlib.Core.Bool.{true}
 use Prim.Native.Nat.{ℕ, _+_}
 use Rattle.model.specs.Block.{heap, room, occupiedAt}
-use Rattle.model.specs.Heap.{tree, sizeAt}
+use Rattle.model.specs.Heap.{sizeAt}
 use Rattle.model.specs.Moves.{Writing}
 use Rattle.model.proofs.Growing.{came-full}
 use Rattle.block.proofs.Free.{found-none}
@@ -57,10 +57,8 @@ same-length c = search needs
 returns : tie.Need-returns
 returns c =
     let st = c .before .before .before .before in
-    let a = st .args in
-    let b = a .b .now in
-    let none = found-none (occupiedAt b) 1 (room b) (omega arith) (sym (c .before .lowest-free .ensures) ∙ c .if1 .taken) in
-    record { named = tt; came = came-full b (a .key) (a .value) (tree (heap b) (a .left)) (tree (heap b) (a .right)) (st .pre .0) none }
+    let b = st .args .b .now in
+    record { named = tt; came = came-full (st .pre .0) (found-none (occupiedAt b) 1 (room b) (omega arith) (sym (c .before .lowest-free .ensures) ∙ c .if1 .taken)) }
 
 size-at-requires : tie.Need-size-at-requires
 size-at-requires c κs = search needs
