@@ -1,19 +1,19 @@
 -- The search for the lowest free node.
-use mathlib.Core.Path.{_≡_, refl, sym, ap, _∙_}
+use mathlib.Core.Path.{_≡_, refl, ap, _∙_}
 use mathlib.Core.Logic.{_≢_}
 use mathlib.Core.Bool.{Bool, true, false}
 use mathlib.Core.List.{List, [], _∷_}
 use Prim.Native.Nat.{ℕ, zero, suc, _+_, _-_, _*_, _/_, _%_, _^_, _≤_, _<_}
-use native.Mathlib.Nat.{add-suc, add-zero, suc-add, zero-add}
+use native.Mathlib.Nat.{add-zero, suc-add, zero-add}
 use native.Mathlib.Omega.{arith}
 use native.Mathlib.Decide.{ℕ-discrete}
-use lib.ListN.{getD, drop}
-use lib.Dec.{ltb, eqb}
+use lib.ListN.{drop}
+use lib.Dec.{eqb}
 use lib.Count.{trailingZeros}
-use borrow.Author.Tests.{lt-ltb, eqb-false, ne-eqb}
-use Rattle.model.specs.Block.{word, room, bit, occupiedAt, Shaped}
+use borrow.Author.Tests.{lt-ltb}
+use Rattle.model.specs.Block.{word, room, bit, occupiedAt}
 use Rattle.model.specs.Heap.{freeFrom, firstOf}
-use Rattle.block.proofs.Bits.{below-all-set, at-clear}
+use Rattle.model.proofs.Bits.{below-all-set, at-clear}
 
 -- nodes that are taken are passed over
 skip : (occ : ℕ → Bool) (m a k : ℕ) → ((x : ℕ) → a ≤ x → x < a + m → occ x ≡ true) → freeFrom occ a (m + k) ≡ freeFrom occ (a + m) k

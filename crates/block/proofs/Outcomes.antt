@@ -1,10 +1,9 @@
 -- Outcomes one after another: what a maker's proof is put together from.
-use mathlib.Core.Path.{_≡_, refl, ap, sym, subst, _∙_}
-use Prim.Native.Nat.{ℕ, suc, _+_}
+use mathlib.Core.Path.{_≡_, ap, sym, subst, _∙_}
+use Prim.Native.Nat.{ℕ}
 use mathlib.Core.List.{List}
-use native.Mathlib.Omega.{arith}
 use Rattle.model.specs.Tree.{Tree, size}
-use Rattle.model.specs.Supply.{Make, make, done, apart, _>>=_, _>>_}
+use Rattle.model.specs.Supply.{Make, done, apart, _>>=_, _>>_}
 use Rattle.model.specs.Heap.{Named, sizeAt, tree, supply}
 use Rattle.model.specs.Block.{heap}
 use Rattle.model.specs.Moves.{Running}

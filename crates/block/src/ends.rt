@@ -1,13 +1,59 @@
-// The end of a call: what was made and is not used is given up.
-use crate::empty;
-use crate::give_up;
+// Giving up, and the end of a call.
 use crate::node_word;
 use crate::raise;
 use crate::root;
-ghost use Prim.Native.Nat.{_+_, _<_, _≤_};
-ghost use Rattle.model.specs.Heap.{Named};
-ghost use Rattle.model.specs.Moves.{Rooted, Running, HeldBelow, Tidied, Swept, Finished};
-ghost use Rattle.model.specs.Block.{heap, room, Shaped};
+use crate::words::free_bit;
+use crate::words::set_word;
+use crate::words::write;
+ghost use mathlib.Core.Path.{_≡_};
+ghost use Prim.Native.Nat.{ℕ, _+_, _<_, _≤_};
+ghost use Rattle.model.specs.Heap.{Named, Occupied, Linked};
+ghost use Rattle.model.specs.Moves.{Lowered, Emptied, Owed, Paid, Unnamed, Freed, Rooted, Running, HeldBelow, Tidied, Swept, Finished};
+ghost use Rattle.model.specs.Block.{heap, room, nodeWord, Shaped};
+
+// One reference fewer to node n: the count that is left.
+fn lower(b: &mut [u32], n: u32) -> u32
+    requires { ⌜ Shaped (now b) × Linked (heap (now b)) × Occupied (heap (now b)) n × (1 ≤ nodeWord (now b) 5 n) ⌝ }
+    ensures { λ r. ⌜ Shaped (now (b .exit)) × Lowered (heap (now (b .entry))) (heap (now (b .exit))) n × (r ≡ nodeWord (now (b .exit)) 5 n) ⌝ }
+{
+    let c = node_word(b, 5, n) - 1;
+    set_word(b, 5, n, c);
+    c
+}
+
+// Node n becomes unoccupied and six zeros.
+fn clear(b: &mut [u32], n: u32)
+    requires { ⌜ Shaped (now b) × Occupied (heap (now b)) n ⌝ }
+    ensures { λ r. ⌜ Shaped (now (b .exit)) × Emptied (heap (now (b .entry))) (heap (now (b .exit))) n ⌝ }
+{
+    free_bit(b, n);
+    write(b, n, 0, 0, 0, 0, 0);
+}
+
+// One reference to n is given up; with the last one the node goes.
+pub fn give_up(b: &mut [u32], n: u32)
+    requires { ⌜ Shaped (now b) × Linked (heap (now b)) × Owed (heap (now b)) n ⌝ }
+    ensures { λ r. ⌜ Shaped (now (b .exit)) × Paid (heap (now (b .entry))) (heap (now (b .exit))) n ⌝ }
+{
+    if n != 0 {
+        let c = lower(b, n);
+        if c == 0 {
+            empty(b, n);
+        }
+    }
+}
+
+// Nothing names n any more: it is emptied, which gives up one reference to each child.
+fn empty(b: &mut [u32], n: u32)
+    requires { ⌜ Shaped (now b) × Linked (heap (now b)) × Unnamed (heap (now b)) n ⌝ }
+    ensures { λ r. ⌜ Shaped (now (b .exit)) × Freed (heap (now (b .entry))) (heap (now (b .exit))) n ⌝ }
+{
+    let l = node_word(b, 2, n);
+    let r = node_word(b, 3, n);
+    clear(b, n);
+    give_up(b, l);
+    give_up(b, r);
+}
 
 // Version v's root becomes n. No count is touched.
 fn set_root(b: &mut [u32], v: u32, n: u32)
@@ -18,7 +64,7 @@ fn set_root(b: &mut [u32], v: u32, n: u32)
     b[at] = n;
 }
 
-// Node n is emptied if nothing names it. An occupied node has a size, so no bit is read.
+// Node n is emptied if nothing names it. An occupied node has a size, so its bit is not read.
 fn tidy(b: &mut [u32], n: u32)
     requires { ⌜ Running (now b) × HeldBelow (heap (now b)) n × (1 ≤ n) × (n ≤ room (now b)) ⌝ }
     ensures { λ r. ⌜ Tidied (now (b .entry)) (now (b .exit)) (n + 1) ⌝ }
@@ -30,7 +76,7 @@ fn tidy(b: &mut [u32], n: u32)
     }
 }
 
-// Every node that nothing names is emptied. Nodes below `from` are all held, so the call made none of them.
+// Every node that nothing names is emptied. The call made none below `from`, so none of those is read.
 pub fn sweep(b: &mut [u32], from: u32)
     requires { ⌜ Running (now b) × (1 ≤ from) × HeldBelow (heap (now b)) from ⌝ }
     ensures { λ r. ⌜ Swept (now (b .entry)) (now (b .exit)) ⌝ }
@@ -43,7 +89,7 @@ pub fn sweep(b: &mut [u32], from: u32)
     }
 }
 
-// Version v becomes the tree below n, and what is not used is given up.
+// Version v becomes the tree below n; its old root and what was made but is not used are given up.
 pub fn finish(b: &mut [u32], v: u32, n: u32, from: u32)
     requires { ⌜ Running (now b) × (v < 16) × Named (heap (now b)) n × (1 ≤ from) × HeldBelow (heap (now b)) from ⌝ }
     ensures { λ r. ⌜ Finished (now (b .entry)) (now (b .exit)) v n ⌝ }

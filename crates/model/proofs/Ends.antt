@@ -1,17 +1,16 @@
 -- The end of a call: the new root is counted and set, the old one given up, and what nothing names is emptied.
 use mathlib.Core.Path.{_≡_, refl, ap, sym, subst, _∙_}
 use mathlib.Core.Logic.{_≢_}
-use Prim.Native.Nat.{ℕ, zero, suc, _+_, _*_, _/_, _%_, _≤_, _<_}
-use mathlib.Core.Bool.{Bool, true, false, true≢false, _&&_}
+use Prim.Native.Nat.{ℕ, zero, suc, _+_, _*_, _/_, _≤_, _<_}
+use mathlib.Core.Bool.{Bool, true, false, true≢false}
 use mathlib.Core.List.{List}
-use lib.ListN.{length, getD, set, length-set}
+use lib.ListN.{set, length-set}
 use lib.Seq.{getD-set-same, getD-set-other}
-use lib.Dec.{eqb, ltb}
 use native.Mathlib.Omega.{arith}
 use native.Mathlib.Decide.{ℕ-discrete}
 use Rattle.model.specs.Heap.{Heap, Occupied, Named, tree, version, hit, Linked, Counted, Kept}
-use Rattle.model.specs.Block.{word, room, nodeWord, bit, occupiedAt, heap, Shaped}
-use Rattle.model.specs.Moves.{Same, Rooted, Raised, Gave, Owed, Paid, Freed, Unnamed, Running, Grown, FullBelow, HeldBelow, Tidied, Swept, Finished}
+use Rattle.model.specs.Block.{room, nodeWord, occupiedAt, heap, Shaped}
+use Rattle.model.specs.Moves.{Rooted, Raised, Gave, Owed, Paid, Freed, Running, Grown, FullBelow, HeldBelow, Tidied, Swept, Finished}
 use Rattle.model.proofs.Counts.{hit-no}
 use Rattle.model.proofs.Giving.{same-linked, same-trees, same-refs, rooted-counted, gave-trans}
 use Rattle.model.proofs.Versions.{gave-version}
@@ -51,7 +50,7 @@ sized {b} {n} R p q ne = go (occupiedAt b n) refl
     go true e = e
     go false e = absurd (ne (R .linked .blank n p q e .size))
 
--- what the calls before made stands from `from` on: below it all had references at entry, and counts only rise
+-- a call makes no node below `from`: those that stand there had references at entry, and counts only rise
 pub held-from : {b e : List ℕ} {from : ℕ} → Kept (heap b) → FullBelow (heap b) from → Grown (heap b) (heap e) → Running e → HeldBelow (heap e) from
 held-from {b} {e} K F G R zero lt o = absurd (omega (arith, R .linked .within 0 o))
 held-from {b} {e} K F G R (suc m) lt o =
@@ -88,7 +87,7 @@ tidied-freed {b} {e} {n} R H S F = record {
     go m lt o (no q) = gave-held (F .gave) H m (omega arith) o
 
 pub tidied-then : {b c e : List ℕ} {i j : ℕ} → Tidied b c i → Tidied c e j → Tidied b e j
-tidied-then {b} {c} {e} T U = record { running = U .running; gave = gave-trans (heap b) (heap c) (heap e) (T .gave) (U .gave); held = U .held }
+tidied-then {b} {c} {e} T U = record { running = U .running; gave = gave-trans (T .gave) (U .gave); held = U .held }
 
 pub swept : {b e : List ℕ} {n : ℕ} → Tidied b e n → room b < n → Swept b e
 swept {b} {e} {n} T lt = record {
@@ -125,7 +124,7 @@ module _ {h g k : Heap} {d n old : ℕ} (E : Rerooted h g k d n old) where
   raised-roots v lt = rw (E .raised .root v lt) (E .linked .roots v lt)
 
   raised-linked : Linked g
-  raised-linked = same-linked h g (E .raised .same) (E .linked) raised-roots raised-blank
+  raised-linked = same-linked (E .raised .same) (E .linked) raised-roots raised-blank
 
   raised-named : (m : ℕ) → Named h m → Named g m
   raised-named zero p = tt
@@ -134,7 +133,7 @@ module _ {h g k : Heap} {d n old : ℕ} (E : Rerooted h g k d n old) where
   raised-counted : Counted g (λ x. 0 + hit n x)
   raised-counted m p =
       let q : Occupied h m = sym (E .raised .same .occupied m) ∙ p in
-      omega (arith, E .raised .counts m (E .linked .within m q .0), E .counts m q, same-refs h g (E .raised .same) (E .raised .root) m)
+      omega (arith, E .raised .counts m (E .linked .within m q .0), E .counts m q, same-refs (E .raised .same) (E .raised .root) m)
 
   rooted-roots : (v : ℕ) → v < 16 → Named g (k .root v)
   rooted-roots v lt = go (ℕ-discrete v d)
@@ -144,10 +143,10 @@ module _ {h g k : Heap} {d n old : ℕ} (E : Rerooted h g k d n old) where
       go (no e) = rw (E .rooted .others v lt e) (raised-linked .roots v lt)
 
   pub rooted-linked : Linked k
-  rooted-linked = same-linked g k (E .rooted .same) raised-linked rooted-roots (λ m z. E .rooted .counts m)
+  rooted-linked = same-linked (E .rooted .same) raised-linked rooted-roots (λ m z. E .rooted .counts m)
 
   rooted-trees : (m : ℕ) → Named h m → tree k m ≡ tree h m
-  rooted-trees m p = same-trees g k (E .rooted .same) raised-linked rooted-roots (λ m z. E .rooted .counts m) m (raised-named m p) ∙ same-trees h g (E .raised .same) (E .linked) raised-roots raised-blank m p
+  rooted-trees m p = same-trees (E .rooted .same) raised-linked rooted-roots (λ m z. E .rooted .counts m) m (raised-named m p) ∙ same-trees (E .raised .same) (E .linked) raised-roots raised-blank m p
 
   rooted-named : (m : ℕ) → Named h m → Named k m
   rooted-named zero p = tt
@@ -156,7 +155,7 @@ module _ {h g k : Heap} {d n old : ℕ} (E : Rerooted h g k d n old) where
   owed-counts : Counted k (λ x. 0 + hit old x)
   owed-counts =
       let q : g .root d ≡ old = E .raised .root d (E .there) ∙ sym (E .was) in
-      subst (λ y. Counted k (λ x. 0 + hit y x)) q (rooted-counted g k d n (E .rooted) (λ x. 0) raised-counted)
+      subst (λ y. Counted k (λ x. 0 + hit y x)) q (rooted-counted (E .rooted) (λ x. 0) raised-counted)
 
   pub owed-old : Owed k old
   owed-old = record { named = rooted-named old (rw (E .was) (E .linked .roots d (E .there))); extra = λ x. 0; counts = owed-counts }
@@ -188,4 +187,4 @@ module _ {b c e f : List ℕ} {d n old : ℕ} (E : Rerooted (heap b) (heap c) (h
   }
     where
       G : Gave (heap e) (heap after)
-      G = gave-trans (heap e) (heap f) (heap after) (P .gave) (W .gave)
+      G = gave-trans (P .gave) (W .gave)

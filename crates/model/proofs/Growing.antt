@@ -17,11 +17,11 @@ use Rattle.model.proofs.Steps.{made-linked, made-counted, made-old, mad
 use Rattle.model.proofs.Pinned.{free-head, Taken}
 use Rattle.model.proofs.Steady.{Onward}
 
-pub grown-none : (h : Heap) → Grown h h
-grown-none h = record { room = refl; root = λ v lt. refl; kept = λ m o. o; trees = λ m o. refl; rises = λ m o. omega arith }
+pub grown-none : {h : Heap} → Grown h h
+grown-none = record { room = refl; root = λ v lt. refl; kept = λ m o. o; trees = λ m o. refl; rises = λ m o. omega arith }
 
-pub grown-trans : (a b c : Heap) → Grown a b → Grown b c → Grown a c
-grown-trans a b c G H = record {
+pub grown-trans : {a b c : Heap} → Grown a b → Grown b c → Grown a c
+grown-trans G H = record {
   room = H .room ∙ G .room;
   root = λ v lt. H .root v lt ∙ G .root v lt;
   kept = λ m o. H .kept m (G .kept m o);
@@ -54,37 +54,31 @@ named-occupied h zero o = tt
 named-occupied h (suc n) o = o
 
 -- the node of the lowest free number was made
-pub came-made : (b e : List ℕ) (k v l r n : ℕ) (ns : List ℕ) → Running b → Shaped e → free (heap b) ≡ n ∷ ns → Named (heap b) l → Named (heap b) r → Made (heap b) (heap e) n l r → heap e .key n ≡ k → heap e .value n ≡ v
+pub came-made : {b e : List ℕ} {k v l r n : ℕ} {ns : List ℕ} → Running b → Shaped e → free (heap b) ≡ n ∷ ns → Named (heap b) l → Named (heap b) r → Made (heap b) (heap e) n l r → heap e .key n ≡ k → heap e .value n ≡ v
     → Came Tree b e (some (tree (heap e) n)) (make k v (tree (heap b) l) (tree (heap b) r))
 unfolding taken short
-came-made b e k v l r n ns R S first nl nr M ek ev = record {
-  running = record { shaped = S; linked = made-linked h g n l r M (R .linked) nl nr; counts = made-counted h g n l r M (R .linked) nl nr (λ x. 0) refl (R .counts) };
-  grown = record { room = M .except .room; root = M .except .root; kept = still h g n l r M (R .linked) nl nr; trees = made-old h g n l r M (R .linked) nl nr; rises = rises };
+came-made {b} {e} {k} {v} {l} {r} {n} {ns} R S first nl nr M ek ev = record {
+  running = record { shaped = S; linked = made-linked M (R .linked) nl nr; counts = made-counted M (R .linked) nl nr (λ x. 0) refl (R .counts) };
+  grown = record { room = M .except .room; root = M .except .root; kept = still M (R .linked) nl nr; trees = made-old M (R .linked) nl nr; rises = rises };
   gives = λ s F. let q = sym (F .free) ∙ first in (
-    sym (made-new h g n l r M (R .linked) nl nr ∙ rw (ek, ev, heads s n ns q .0)),
+    sym (made-new M (R .linked) nl nr ∙ rw (ek, ev, heads s n ns q .0)),
     record { free = rw (M .except .room) (T .left) ∙ sym (heads s n ns q .1); enough = le-ltb (length (s .free)) (suc (s .makes)) (cons-short s n ns q) },
   );
 }
   where
-    h : Heap
-    h = heap b
-
-    g : Heap
-    g = heap e
-
-    rises : (m : ℕ) → Named h m → h .count m ≤ g .count m
+    rises : (m : ℕ) → Named (heap b) m → heap b .count m ≤ heap e .count m
     rises zero o = omega arith
     rises (suc m) o = omega (arith, M .counts (suc m) o)
 
-    T : Taken (h .occupied) (g .occupied) 1 (h .room) n ns
-    T = free-head (h .occupied) (g .occupied) 1 (h .room) n ns first (M .occupied) (M .except .occupied)
+    T : Taken (heap b .occupied) (heap e .occupied) 1 (heap b .room) n ns
+    T = free-head (heap b .occupied) (heap e .occupied) 1 (heap b .room) n ns first (M .occupied) (M .except .occupied)
 
 -- no number is free
-pub came-full : (b : List ℕ) (k v : ℕ) (l r : Tree) → Running b → free (heap b) ≡ [] → Came Tree b b none (make k v l r)
+pub came-full : {b : List ℕ} {k v : ℕ} {l r : Tree} → Running b → free (heap b) ≡ [] → Came Tree b b none (make k v l r)
 unfolding taken short
-came-full b k v l r R empty = record {
+came-full {b} R empty = record {
   running = R;
-  grown = grown-none (heap b);
+  grown = grown-none;
   gives = λ s F. lt-ltb (length (s .free)) (suc (s .makes)) (omega (arith, simp length-drop at (ap length (sym (F .free) ∙ empty))));
 }
 
@@ -92,7 +86,7 @@ came-full b k v l r R empty = record {
 pub came-bind : {X Y : Type 0} (b c e : List ℕ) (x : X) (y : Option Y) (m : Make X) (f : X → Make Y) → Came X b c (some x) m → Came Y c e y (f x) → Came Y b e y (m >>= f)
 came-bind b c e x y m f A B = record {
   running = B .running;
-  grown = grown-trans (heap b) (heap c) (heap e) (A .grown) (B .grown);
+  grown = grown-trans (A .grown) (B .grown);
   gives = λ s F. let a = A .gives s F in subst (λ z. Gives (heap e) y (f z (m s .1))) (sym (a .0)) (B .gives (m s .1) (a .1));
 }
 
@@ -107,4 +101,4 @@ came-apart b e i x m A = record { running = A .running; grown = A .grown; gives 
 
 -- nothing made
 pub came-done : {X : Type 0} (b : List ℕ) (x : X) → Running b → Came X b b (some x) (done x)
-came-done b x R = record { running = R; grown = grown-none (heap b); gives = λ s F. (refl, F) }
+came-done b x R = record { running = R; grown = grown-none; gives = λ s F. (refl, F) }

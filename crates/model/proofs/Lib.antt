@@ -25,7 +25,6 @@ pub mod Once
 pub mod Meanings
 pub mod Bits
 pub mod Giveups
-pub mod Wipes
 pub mod Steady
 pub mod Growing
 pub mod Turns

@@ -10,6 +10,8 @@ use Rattle.model.specs.Supply.{Supply, Make, short}
 use Rattle.model.specs.Block.{heap, word, room, nodeWord, occupiedAt, Shaped}
 use Rattle.model.specs.Heap.{Heap, Occupied, Named, sizeAt, tree, version, hit, Linked, Blank, Counted, Kept, free}
 
+-- One node, one root, one count.
+
 -- g is h but for node n and for counts
 pub record Except (h g : Heap) (n : ℕ) : Type 0 where
   pub room : g .room ≡ h .room
@@ -21,6 +23,7 @@ pub record Except (h g : Heap) (n : ℕ) : Type 0 where
   pub right : (m : ℕ) → m ≢ n → g .right m ≡ h .right m
   pub size : (m : ℕ) → m ≢ n → g .size m ≡ h .size m
 
+-- node n was free and is a node over l and r now; nothing names it, and l and r have a reference more
 pub record Made (h g : Heap) (n l r : ℕ) : Type 0 where
   pub free : h .occupied n ≡ false
   pub low : 1 ≤ n
@@ -34,6 +37,7 @@ pub record Made (h g : Heap) (n l r : ℕ) : Type 0 where
   pub counts : (m : ℕ) → Occupied h m → g .count m ≡ h .count m + (hit l m + hit r m)
   pub blanks : (m : ℕ) → h .occupied m ≡ false → m ≢ n → g .count m ≡ h .count m
 
+-- node n was occupied and is unoccupied now, six zeros
 pub record Emptied (h g : Heap) (n : ℕ) : Type 0 where
   pub was : Occupied h n
   pub except : Except h g n
@@ -51,6 +55,7 @@ pub record Same (h g : Heap) : Type 0 where
   pub right : (m : ℕ) → g .right m ≡ h .right m
   pub size : (m : ℕ) → g .size m ≡ h .size m
 
+-- the root of version v is n now
 pub record Rooted (h g : Heap) (v n : ℕ) : Type 0 where
   pub same : Same h g
   pub there : v < 16
@@ -58,6 +63,14 @@ pub record Rooted (h g : Heap) (v n : ℕ) : Type 0 where
   pub others : (w : ℕ) → w < 16 → w ≢ v → g .root w ≡ h .root w
   pub counts : (m : ℕ) → g .count m ≡ h .count m
 
+-- one reference more to n, or none where n is 0
+pub record Raised (h g : Heap) (n : ℕ) : Type 0 where
+  pub same : Same h g
+  pub root : (v : ℕ) → v < 16 → g .root v ≡ h .root v
+  pub none : g .count 0 ≡ h .count 0
+  pub counts : (m : ℕ) → 1 ≤ m → g .count m ≡ h .count m + hit n m
+
+-- one reference fewer to n
 pub record Lowered (h g : Heap) (n : ℕ) : Type 0 where
   pub same : Same h g
   pub root : (v : ℕ) → v < 16 → g .root v ≡ h .root v
@@ -65,6 +78,21 @@ pub record Lowered (h g : Heap) (n : ℕ) : Type 0 where
   pub here : h .count n ≡ g .count n + 1
   pub others : (m : ℕ) → m ≢ n → g .count m ≡ h .count m
 
+-- node n of b has its bit set or cleared in e, and its first j words are those of xs
+pub record Writing (b e : List ℕ) (n : ℕ) (taken : Bool) (xs : ℕ → ℕ) (j : ℕ) : Type 0 where
+  pub shaped : Shaped e
+  pub low : 1 ≤ n
+  pub high : n ≤ room e
+  pub room-kept : room e ≡ room b
+  pub root : (v : ℕ) → v < 16 → word e (1 + v) ≡ word b (1 + v)
+  pub occupied : (m : ℕ) → m ≢ n → occupiedAt e m ≡ occupiedAt b m
+  pub bit : occupiedAt e n ≡ taken
+  pub words : (i m : ℕ) → i < 6 → m ≢ n → nodeWord e i m ≡ nodeWord b i m
+  pub here : (i : ℕ) → i < j → nodeWord e i n ≡ xs i
+
+-- Giving up.
+
+-- references were given up: what is left stands as it stood, and has a reference if it had one
 pub record Gave (h g : Heap) : Type 0 where
   pub linked : Linked g
   pub room : g .room ≡ h .room
@@ -99,33 +127,6 @@ pub record Unnamed (h : Heap) (n : ℕ) : Type 0 where
   pub extra : ℕ → ℕ
   pub counts : Counted h extra
 
--- node n of b has been freed in e, and its first j words made zero
-pub record Wiping (b e : List ℕ) (n j : ℕ) : Type 0 where
-  pub shaped : Shaped e
-  pub room-kept : room e ≡ room b
-  pub root : (v : ℕ) → v < 16 → word e (1 + v) ≡ word b (1 + v)
-  pub occupied : (m : ℕ) → m ≢ n → occupiedAt e m ≡ occupiedAt b m
-  pub free : occupiedAt e n ≡ false
-  pub words : (i m : ℕ) → i < 6 → m ≢ n → nodeWord e i m ≡ nodeWord b i m
-  pub zeros : (i : ℕ) → i < j → nodeWord e i n ≡ 0
-
--- one reference more to n, or none where n is 0
-pub record Raised (h g : Heap) (n : ℕ) : Type 0 where
-  pub same : Same h g
-  pub root : (v : ℕ) → v < 16 → g .root v ≡ h .root v
-  pub none : g .count 0 ≡ h .count 0
-  pub counts : (m : ℕ) → 1 ≤ m → g .count m ≡ h .count m + hit n m
-
--- node n of b has been taken in e, and its first j words are those of xs
-pub record Writing (b e : List ℕ) (n : ℕ) (xs : ℕ → ℕ) (j : ℕ) : Type 0 where
-  pub shaped : Shaped e
-  pub room-kept : room e ≡ room b
-  pub root : (v : ℕ) → v < 16 → word e (1 + v) ≡ word b (1 + v)
-  pub occupied : (m : ℕ) → m ≢ n → occupiedAt e m ≡ occupiedAt b m
-  pub taken : occupiedAt e n ≡ true
-  pub words : (i m : ℕ) → i < 6 → m ≢ n → nodeWord e i m ≡ nodeWord b i m
-  pub here : (i : ℕ) → i < j → nodeWord e i n ≡ xs i
-
 -- The running call.
 
 -- what holds of a block while a call makes nodes
@@ -134,7 +135,7 @@ pub record Running (b : List ℕ) : Type 0 where
   pub linked : Linked (heap b)
   pub counts : Counted (heap b) (λ x. 0)
 
--- nodes were added to h, and nothing that stood was touched but for its count
+-- nodes were added to h, and nothing that stood was touched, but that counts may rise
 pub record Grown (h g : Heap) : Type 0 where
   pub room : g .room ≡ h .room
   pub root : (v : ℕ) → v < 16 → g .root v ≡ h .root v
@@ -164,11 +165,11 @@ pub record Came (X : Type 0) (b e : List ℕ) (x : Option X) (m : Make X) : Type
 abbrev pub FullBelow : Heap → ℕ → Type 0
 FullBelow h n = (m : ℕ) → 1 ≤ m → m < n → Occupied h m
 
--- some root or link names each node below n
+-- each occupied node below n has a reference
 abbrev pub HeldBelow : Heap → ℕ → Type 0
 HeldBelow h n = (m : ℕ) → m < n → Occupied h m → 1 ≤ h .count m
 
--- the nodes below n that nothing names are emptied
+-- the nodes below n that nothing names are emptied: what is left has a reference
 pub record Tidied (b e : List ℕ) (n : ℕ) : Type 0 where
   pub running : Running e
   pub gave : Gave (heap b) (heap e)

@@ -1,15 +1,14 @@
-use borrow.Author.Needs.{needs}
+-- Words whose nodes are all occupied are passed over; in the first other word the lowest bit that is 0 is the node.
 use native.Mathlib.Omega.{arith}
-use Rattle.block.proofs.lowest_free.Statement.{statement}
-use Rattle.block.proofs.lowest_free.Tie as tie
-use Rattle.block.proofs.lowest_free.Reads as reads
-use Rattle.block.proofs.lowest_free.Lts as lts
-use mathlib.Core.Path.{_≡_, refl, sym, ap, _∙_}
 use native.Mathlib.Nat.{sub-zero}
+use borrow.Author.Needs.{needs}
+use mathlib.Core.Path.{_≡_, refl, sym, ap, _∙_}
 use Prim.Native.Nat.{suc, _+_, _-_, _*_, _/_, _≤_}
 use Rattle.model.specs.Block.{room, occupiedAt}
 use Rattle.model.specs.Heap.{freeFrom, firstOf}
 use Rattle.block.proofs.Free.{over-word, in-word, none-left}
+use Rattle.block.proofs.lowest_free.Statement.{statement}
+use Rattle.block.proofs.lowest_free.Tie as tie
 
 abbrev Inv-loop : tie.InvT-loop
 Inv-loop b m w₀ w = (m ≡ room b / 32) × (w ≤ m) × (freeFrom (occupiedAt b) (suc (32 * w)) (room b - 32 * w) ≡ freeFrom (occupiedAt b) 1 (room b))
@@ -17,72 +16,59 @@ Inv-loop b m w₀ w = (m ≡ room b / 32) × (w ≤ m) × (freeFrom (occupiedAt 
 abbrev μ-loop : tie.MeasureT-loop
 μ-loop b m w₀ w = m - w
 
--- src/lib.rt:105:13
 shared-slice-read-m : tie.Need-shared-slice-read-m Inv-loop μ-loop
 shared-slice-read-m c = search needs
 
--- src/lib.rt:107:5
 loop-holds : tie.Need-loop-holds Inv-loop μ-loop
 loop-holds c = (refl, omega arith, rw sub-zero)
 
--- src/lib.rt:108:18
 add-k : tie.Need-add-k Inv-loop μ-loop
 add-k c = search needs
 
--- src/lib.rt:108:17
 cast-k : tie.Need-cast-k Inv-loop μ-loop
 cast-k c = search needs
 
--- src/lib.rt:109:17
 mul-x : tie.Need-mul-x Inv-loop μ-loop
 mul-x c = search needs
 
--- src/lib.rt:109:17
 shared-slice-read-x : tie.Need-shared-slice-read-x Inv-loop μ-loop
 shared-slice-read-x c = search needs
 
--- src/lib.rt:112:20
 mul-result : tie.Need-mul-result Inv-loop μ-loop
 mul-result c = search needs
 
--- src/lib.rt:112:20
 add-result : tie.Need-add-result Inv-loop μ-loop
 add-result c = search needs
 
--- src/lib.rt:112:20
 add-result-2 : tie.Need-add-result-2 Inv-loop μ-loop
 add-result-2 c = search needs
 
--- src/lib.rt:112:13
 returns : tie.Need-returns Inv-loop μ-loop
 returns c =
-    let a = c .before .before .before .before .before .args in
-    let w = c .before .before .before .loop .w in
-    sym (in-word (a .b .now) w (omega (arith, c .before .shared-slice-known2 .given (17 + w))) (c .before .before .before .before .before .pre .whole) (omega arith) (c .if1 .taken))
-    ∙ ap firstOf (c .before .before .before .loop .inv .2)
+    let st = c .before .before .before .before .before in
+    let at = c .before .before .before .loop in
+    let fits = c .before .shared-slice-known2 .given (17 + at .w) in
+    sym (in-word (st .args .b .now) (at .w) (omega arith) (st .pre .whole) (omega arith) (c .if1 .taken)) ∙ ap firstOf (at .inv .2)
 
--- src/lib.rt:114:9
 add-w : tie.Need-add-w Inv-loop μ-loop
 add-w c = search needs
 
--- src/lib.rt:107:5
 loop-less : tie.Need-loop-less Inv-loop μ-loop
 loop-less c = search needs
 
--- src/lib.rt:107:5
 loop-again : tie.Need-loop-again Inv-loop μ-loop
 loop-again c =
-    let a = c .before .before .before .before .before .args in
-    let w = c .before .before .before .loop .w in
-    (c .before .before .before .loop .inv .0, omega arith, sym (over-word (a .b .now) w (omega (arith, c .before .shared-slice-known2 .given (17 + w))) (c .before .before .before .before .before .pre .whole) (omega arith) (c .if1 .left)) ∙ c .before .before .before .loop .inv .2)
+    let st = c .before .before .before .before .before in
+    let at = c .before .before .before .loop in
+    let fits = c .before .shared-slice-known2 .given (17 + at .w) in
+    (at .inv .0, omega arith, sym (over-word (st .args .b .now) (at .w) (omega arith) (st .pre .whole) (omega arith) (c .if1 .left)) ∙ at .inv .2)
 
--- src/lib.rt:101:1
 returns-2 : tie.Need-returns-2 Inv-loop μ-loop
 returns-2 c =
-    let a = c .before .before .before .args in
-    let w = c .before .loop .w in
-    let z : room (a .b .now) - 32 * w ≡ 0 = omega arith in
-    sym (none-left (occupiedAt (a .b .now)) (suc (32 * w))) ∙ ap (λ k. firstOf (freeFrom (occupiedAt (a .b .now)) (suc (32 * w)) k)) (sym z) ∙ ap firstOf (c .before .loop .inv .2)
+    let b = c .before .before .before .args .b .now in
+    let at = c .before .loop in
+    let none : room b - 32 * at .w ≡ 0 = omega arith in
+    sym (none-left (occupiedAt b) (suc (32 * at .w))) ∙ ap (λ k. firstOf (freeFrom (occupiedAt b) (suc (32 * at .w)) k)) (sym none) ∙ ap firstOf (at .inv .2)
 
 pub lowest-free-spec : {M : Type 1} → statement M
 lowest-free-spec =

@@ -7,19 +7,16 @@ use Rattle.block.proofs.Makes.{named-le, count-le}
 use Rattle.block.proofs.ends.finish.Statement.{statement}
 use Rattle.block.proofs.ends.finish.Tie as tie
 
+abbrev entry : tie.After-set-root → tie.Start
+entry c = c .before .before .before .before .before .before .before .before .before
+
 -- what is known when the new root is set
-rerooted : (c : tie.After-set-root) → Rerooted (heap (c .before .before .before .before .before .before .before .before .before .args .b .now)) (heap (c .before .before .before .before .raise .last .0)) (heap (c .set-root .last .0)) (c .before .before .before .before .before .before .before .before .before .args .v) (c .before .before .before .before .before .before .before .before .before .args .n) (c .before .before .before .before .before .before .root .result)
+rerooted : (c : tie.After-set-root) → let a = entry c .args in Rerooted (heap (a .b .now)) (heap (c .before .before .before .before .raise .last .0)) (heap (c .set-root .last .0)) (a .v) (a .n) (c .before .before .before .before .before .before .root .result)
 rerooted c =
-    let st = c .before .before .before .before .before .before .before .before .before in
-    record {
-      linked = st .pre .0 .linked;
-      counts = st .pre .0 .counts;
-      there = st .pre .1;
-      named = st .pre .2;
-      was = c .before .before .before .before .before .before .root .ensures;
-      raised = c .before .before .before .before .raise .ensures .1;
-      rooted = c .set-root .ensures .1;
-    }
+    let pre = entry c .pre in
+    let was = c .before .before .before .before .before .before .root .ensures in
+    let raised = c .before .before .before .before .raise .ensures .1 in
+    record { linked = pre .0 .linked; counts = pre .0 .counts; there = pre .1; named = pre .2; was = was; raised = raised; rooted = c .set-root .ensures .1 }
 
 root-requires : tie.Need-root-requires
 root-requires c κs = search needs
@@ -46,8 +43,7 @@ sweep-requires c κs =
     let paid = c .before .before .before .give-up .ensures in
     let at = c .before .before .before .before .before .before .before in
     let E = rerooted at in
-    let st = at .before .before .before .before .before .before .before .before .before in
-    (paid-running E (paid .0) (paid .1), st .pre .3, paid-held E (paid .1) (st .pre .4))
+    (paid-running E (paid .0) (paid .1), entry at .pre .3, paid-held E (paid .1) (entry at .pre .4))
 
 same-length : tie.Need-same-length
 same-length c = search needs

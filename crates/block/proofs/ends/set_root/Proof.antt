@@ -1,33 +1,25 @@
 -- One word is set, and it is a root.
 use borrow.Author.Needs.{needs}
-use Rattle.block.proofs.ends.set_root.Statement.{statement}
-use Rattle.block.proofs.ends.set_root.Tie as tie
-use Rattle.block.proofs.ends.set_root.Reads as reads
-use Rattle.block.proofs.ends.set_root.Lts as lts
 use mathlib.Core.Path.{refl}
 use Rattle.model.proofs.Ends.{roots-set}
+use Rattle.block.proofs.ends.set_root.Statement.{statement}
+use Rattle.block.proofs.ends.set_root.Tie as tie
 
--- src/ends.rt:17:15
 add-at : tie.Need-add-at
 add-at c = search needs
 
--- src/ends.rt:17:14
 cast-at : tie.Need-cast-at
 cast-at c = search needs
 
--- src/ends.rt:18:5
 mul-b : tie.Need-mul-b
 mul-b c = search needs
 
--- src/ends.rt:18:5
 slice-write-b : tie.Need-slice-write-b
 slice-write-b c = search needs
 
--- src/ends.rt:13:1
 same-length : tie.Need-same-length
 same-length c = search needs
 
--- src/ends.rt:13:1
 returns : tie.Need-returns
 returns c = roots-set (c .args .b .now) _ (c .args .v) (c .args .n) (c .pre .0) (c .pre .1) refl
 

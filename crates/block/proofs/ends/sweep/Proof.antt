@@ -1,9 +1,4 @@
 -- Before each step all nodes below i have references; at the end all nodes do.
-use Rattle.block.proofs.ends.sweep.Statement.{statement}
-use Rattle.block.proofs.ends.sweep.Tie as tie
-use Rattle.block.proofs.ends.sweep.Reads as reads
-use Rattle.block.proofs.ends.sweep.Lts as lts
-use Rattle.block.proofs.ends.tidy.Reads as tidy-reads
 use native.Mathlib.Omega.{arith}
 use borrow.Author.Needs.{needs}
 use mathlib.Core.Path.{_≡_, refl}
@@ -11,6 +6,8 @@ use Prim.Native.Nat.{_+_, _-_, _≤_}
 use Rattle.model.specs.Block.{room}
 use Rattle.model.specs.Moves.{Tidied}
 use Rattle.model.proofs.Ends.{tidied-start, tidied-then, swept}
+use Rattle.block.proofs.ends.sweep.Statement.{statement}
+use Rattle.block.proofs.ends.sweep.Tie as tie
 
 abbrev Inv-loop : tie.InvT-loop
 Inv-loop b₀ from n i₀ b i = (n ≡ room b₀) × (1 ≤ i) × Tidied b₀ b i
@@ -18,41 +15,33 @@ Inv-loop b₀ from n i₀ b i = (n ≡ room b₀) × (1 ≤ i) × Tidied b₀ b 
 abbrev μ-loop : tie.MeasureT-loop
 μ-loop b₀ from n i₀ b i = n + 1 - i
 
--- src/ends.rt:38:13
 slice-read-n : tie.Need-slice-read-n Inv-loop μ-loop
 slice-read-n c = search needs
 
--- src/ends.rt:40:5
 loop-holds : tie.Need-loop-holds Inv-loop μ-loop
 loop-holds c = let P = c .before .before .pre in (refl, P .1, tidied-start (P .0) (P .2))
 
--- src/ends.rt:41:9
 tidy-requires : tie.Need-tidy-requires Inv-loop μ-loop
 tidy-requires c κs =
     let I = c .before .before .loop .inv in
     (I .2 .running, I .2 .held, I .1, omega (arith, I .0, I .2 .gave .room, c .before .loop-test .taken))
 
--- src/ends.rt:42:9
 add-i : tie.Need-add-i Inv-loop μ-loop
 add-i c = search needs
 
--- src/ends.rt:40:5
 loop-less : tie.Need-loop-less Inv-loop μ-loop
 loop-less c = omega (arith, c .before .before .before .before .loop-test .taken)
 
--- src/ends.rt:40:5
 loop-again : tie.Need-loop-again Inv-loop μ-loop
 loop-again c =
     let I = c .before .before .before .before .before .loop .inv in
     (I .0, omega arith, tidied-then (I .2) (c .before .before .tidy .ensures))
 
--- src/ends.rt:34:1
 same-length : tie.Need-same-length Inv-loop μ-loop
 same-length c =
     let I = c .before .loop .inv in
     omega (arith, I .2 .running .shaped .long, I .2 .gave .room, c .before .before .before .before .pre .0 .shaped .long)
 
--- src/ends.rt:34:1
 returns : tie.Need-returns Inv-loop μ-loop
 returns c =
     let I = c .before .loop .inv in

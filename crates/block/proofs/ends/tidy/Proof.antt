@@ -1,24 +1,17 @@
 -- A node that is not emptied has a reference already, or is not occupied.
-use borrow.Author.Needs.{needs}
-use Rattle.block.proofs.ends.tidy.Statement.{statement}
-use Rattle.block.proofs.ends.tidy.Tie as tie
-use Rattle.block.proofs.ends.tidy.Reads as reads
-use Rattle.block.proofs.ends.tidy.Lts as lts
-use Rattle.block.proofs.empty.Reads as empty-reads
-use Rattle.block.proofs.node_word.Reads as node-word-reads
 use native.Mathlib.Omega.{arith}
+use borrow.Author.Needs.{needs}
 use mathlib.Core.Path.{sym, _∙_}
 use Rattle.model.proofs.Ends.{sized, tidied-freed, tidied-held}
+use Rattle.block.proofs.ends.tidy.Statement.{statement}
+use Rattle.block.proofs.ends.tidy.Tie as tie
 
--- src/ends.rt:26:8
 node-word-requires : tie.Need-node-word-requires
 node-word-requires c κs = search needs
 
--- src/ends.rt:27:12
 node-word-requires-2 : tie.Need-node-word-requires-2
 node-word-requires-2 c κs = search needs
 
--- src/ends.rt:28:13
 empty-requires : tie.Need-empty-requires
 empty-requires c κs =
     let st = c .before .before .before .before .before .before .before .before in
@@ -28,32 +21,26 @@ empty-requires c κs =
     let was = sized R (st .pre .2) (st .pre .3) (λ z. c .before .before .before .before .if1 .taken (size ∙ z)) in
     (R .shaped, R .linked, record { was = was; zero = sym count ∙ c .before .if2 .taken; extra = λ x. 0; counts = R .counts })
 
--- src/ends.rt:22:1
 same-length : tie.Need-same-length
 same-length c = search needs
 
--- src/ends.rt:22:1
 returns : tie.Need-returns
 returns c =
     let st = c .before .before .before .before .before .before .before .before .before .before .before in
     let freed = c .before .before .empty .ensures in
     tidied-freed (st .pre .0) (st .pre .1) (freed .0) (freed .1)
 
--- src/ends.rt:22:1
 same-length-2 : tie.Need-same-length-2
 same-length-2 c = search needs
 
--- src/ends.rt:22:1
 returns-2 : tie.Need-returns-2
 returns-2 c =
     let st = c .before .before .before .before .before .before .before in
     tidied-held (st .pre .0) (st .pre .1) (λ o. omega (arith, c .before .node-word2 .ensures, c .if2 .left))
 
--- src/ends.rt:22:1
 same-length-3 : tie.Need-same-length-3
 same-length-3 c = search needs
 
--- src/ends.rt:22:1
 returns-3 : tie.Need-returns-3
 returns-3 c =
     let st = c .before .before .before .before in
