@@ -1,7 +1,7 @@
 -- Remove is right because each node of the path is the rule's, and the minimum that takes a node's place is the right side's.
 use mathlib.Core.Path.{_≡_, ap, sym, subst}
 use mathlib.Core.Logic.{_≢_}
-use Prim.Native.Nat.{ℕ, suc, _≤_, _<_}
+use Prim.Native.Nat.{ℕ, suc, _≤_, _<_, _+_}
 use mathlib.Core.List.{List}
 use mathlib.Core.Option.{Option, none, some}
 use native.Mathlib.Omega.{arith}
@@ -21,20 +21,20 @@ use Rattle.block.specs.declared.Made.{Made}
 use Rattle.block.specs.declared.Made.the-variants.{At, Full}
 use Rattle.block.specs.declared.Node.{Node}
 use Rattle.block.specs.Outcome.{Outcome, treeAt}
-use Rattle.block.proofs.Outcomes.{out-stop, out-apart, out-done}
-use Rattle.block.proofs.Levels.{Asks, read-tree, read-left, read-right, read-size, out-then}
+use Rattle.block.proofs.Outcomes.{out-apart, out-done}
+use Rattle.block.proofs.Levels.{Asks, read-tree, read-left, read-right, read-size, Above, Level}
 use Rattle.tree.specs.declared.Rest.{Rest}
 use Rattle.tree.specs.declared.Lost.{Lost}
 use Rattle.tree.specs.declared.Lost.the-variants as lost
 use Rattle.tree.specs.Removal.{Removal, minimum}
-use Rattle.tree.proofs.Inserts.{Path, up-left, up-right}
+use Rattle.tree.proofs.Paths.{Path, up-left, up-right}
 
 pub balanced-onward : (k v : ℕ) (l r : Tree) → Onward (balanced k v l r)
 balanced-onward k v l r = onward (balanced k v l r) (balanced-steady k v l r)
 
 -- the answer as a match has told it
-pub lost-told : {b e : List ℕ} {m : Make Least} (r q : Lost) → r ≡ q → Removal b e r m → Removal b e q m
-lost-told {b} {e} {m} r q p O = subst (λ z. Removal b e z m) p O
+pub lost-matched : {b e : List ℕ} {m : Make Least} {r q : Lost} → r ≡ q → Removal b e r m → Removal b e q m
+lost-matched {b} {e} {m} p O = subst (λ z. Removal b e z m) p O
 
 -- the minimum of node n was taken out: what is left has one entry fewer
 pub lost-size : {b c : List ℕ} {p : Rest} (n : ℕ) → Running b → Occupied (heap b) n → Removal b c (lost.Into p) (minimum (heap b) n) → suc (sizeAt (heap c) (p .node)) ≡ sizeAt (heap b) n
@@ -124,7 +124,7 @@ module _ {b : List ℕ} {n : ℕ} {m : Node} (P : Path b n m) where
         record { named = A .named; came = below q (came-bind b c e found (some r) (minimum (heap b) (m .left)) then (O .came) (came-bind c e e (tree (heap e) x) (some r) low top (back A .came) (came-done e r (A .came .running)))) }
 
 -- two trees without the key between them, by mk
-module _ {b : List ℕ} (mk : ℕ → ℕ → Tree → Tree → Make Tree) (l r : ℕ) (A : Asks b l r) where
+module _ {b : List ℕ} (mk : ℕ → ℕ → Tree → Tree → Make Tree) (l r : ℕ) (A : Running b × Named (heap b) l × Named (heap b) r × (sizeAt (heap b) l + sizeAt (heap b) r < 1048575)) where
   abbrev all : Make Tree
   all = withoutKey mk (tree (heap b) l) (tree (heap b) r)
 
@@ -151,8 +151,8 @@ module _ {b : List ℕ} (mk : ℕ → ℕ → Tree → Tree → Make Tree) (l r 
       unfolding withoutKey
       both {e} {x} O = rw (tree-node (heap b) (A .0 .linked) l ol, tree-node (heap b) (A .0 .linked) r or, withoutKey) (subst (λ t. Outcome b e x (apart r >> (minimum (heap b) r >>= λ m. mk (m .key) (m .value) t (m .rest)))) (tree-node (heap b) (A .0 .linked) l ol) (out-apart b e r x (minimum (heap b) r >>= next) O))
 
-      pub min-right : Running b × Occupied (heap b) r
-      min-right = (A .0, or)
+      pub without-min : Running b × Occupied (heap b) r × (sizeAt (heap b) r < 1048575)
+      without-min = (A .0, or, omega (arith, A .3))
 
       pub without-stop : {e : List ℕ} → ((k v : ℕ) (t u : Tree) → Onward (mk k v t u)) → Removal b e lost.Full (minimum (heap b) r) → Outcome b e Full all
       without-stop {e} o O = both (record { named = tt; came = came-stop b e (minimum (heap b) r) next (O .came) (λ m. o (m .key) (m .value) (tree (heap b) l) (m .rest)) })
@@ -171,46 +171,55 @@ pub remove-none : {b : List ℕ} (n k : ℕ) → n ≡ 0 → Running b → Outco
 unfolding removePresent tree load
 remove-none {b} n k p R = rw p (out-done b 0 R tt)
 
-module _ {b : List ℕ} {n : ℕ} {m : Node} (P : Path b n m) (k : ℕ) where
+-- a node of remove's path
+pub record Removing (b : List ℕ) (n : ℕ) (m : Node) (k : ℕ) : Type 0 where
+  pub path : Path b n m
+
+module _ {b : List ℕ} {n : ℕ} {m : Node} {k : ℕ} (I : Removing b n m k) where
+  abbrev L : Level b n m
+  L = I .path .level
+
   abbrev goal : Make Tree
   goal = removePresent (tree (heap b) n) k
 
   abbrev under : ℕ → Make Tree
   under c = removePresent (tree (heap b) c) k
 
-  abbrev left : Tree → Tree → Make Tree
-  left t u = balanced (m .key) (m .value) t u
+  abbrev left : Tree
+  left = tree (heap b) (m .left)
 
-  abbrev right : Tree → Tree → Make Tree
-  right t u = balanced (m .key) (m .value) u t
+  abbrev right : Tree
+  right = tree (heap b) (m .right)
 
-  pub remove-here : {e : List ℕ} {q : Made} → k ≡ m .key → Outcome b e q (withoutKey balanced (tree (heap b) (m .left)) (tree (heap b) (m .right))) → Outcome b e q goal
+  abbrev again : Tree → Tree → Make Tree
+  again t u = balanced (m .key) (m .value) t u
+
+  pub remove-here : {e : List ℕ} {q : Made} → k ≡ m .key → Outcome b e q (withoutKey balanced left right) → Outcome b e q goal
   unfolding removePresent
-  remove-here {e} {q} p O = rw (read-tree (P .level), removePresent) (rw (eq-cmp k (m .key) p) (out-apart b e n q (withoutKey balanced (tree (heap b) (m .left)) (tree (heap b) (m .right))) O))
+  remove-here {e} {q} p O = rw (read-tree L, removePresent) (rw (eq-cmp k (m .key) p) (out-apart b e n q (withoutKey balanced left right) O))
 
-  by-left : {e : List ℕ} {q : Made} → k < m .key → Outcome b e q (under (m .left) >>= λ t. left t (tree (heap b) (m .right))) → Outcome b e q goal
+  pub remove-left : k < m .key → Above b goal (under (m .left)) (λ t u. again t u) (m .right)
   unfolding removePresent
-  by-left {e} {q} p O = rw (read-tree (P .level), removePresent) (rw (lt-cmp k (m .key) p) (out-apart b e n q (under (m .left) >>= λ t. left t (tree (heap b) (m .right))) O))
+  remove-left p = record {
+    other = read-right L;
+    onward = λ t. balanced-onward (m .key) (m .value) t right;
+    by = λ e q O. rw (read-tree L, removePresent) (rw (lt-cmp k (m .key) p) (out-apart b e n q (under (m .left) >>= λ t. again t right) O));
+  }
 
-  by-right : {e : List ℕ} {q : Made} → k ≢ m .key → m .key ≤ k → Outcome b e q (under (m .right) >>= λ t. right t (tree (heap b) (m .left))) → Outcome b e q goal
+  pub remove-right : k ≢ m .key → m .key ≤ k → Above b goal (under (m .right)) (λ t u. again u t) (m .left)
   unfolding removePresent
-  by-right {e} {q} p o O = rw (read-tree (P .level), removePresent) (rw (gt-cmp k (m .key) (omega (arith, p, o))) (out-apart b e n q (under (m .right) >>= λ t. right t (tree (heap b) (m .left))) O))
-
-  pub remove-left-stop : {e : List ℕ} → k < m .key → Outcome b e Full (under (m .left)) → Outcome b e Full goal
-  remove-left-stop {e} p O = by-left p (out-stop b e (under (m .left)) (λ t. left t (tree (heap b) (m .right))) O (λ t. balanced-onward (m .key) (m .value) t (tree (heap b) (m .right))))
-
-  pub remove-right-stop : {e : List ℕ} → k ≢ m .key → m .key ≤ k → Outcome b e Full (under (m .right)) → Outcome b e Full goal
-  remove-right-stop {e} p o O = by-right p o (out-stop b e (under (m .right)) (λ t. right t (tree (heap b) (m .left))) O (λ t. balanced-onward (m .key) (m .value) (tree (heap b) (m .left)) t))
+  remove-right p o = record {
+    other = read-left L;
+    onward = λ t. balanced-onward (m .key) (m .value) left t;
+    by = λ e q O. rw (read-tree L, removePresent) (rw (gt-cmp k (m .key) (omega (arith, p, o))) (out-apart b e n q (under (m .right) >>= λ t. again left t) O));
+  }
 
   module _ {c : List ℕ} {x : ℕ} where
     pub remove-left-asks : Outcome b c (At x) (under (m .left)) → Asks c x (m .right)
-    remove-left-asks O = up-left P O (omega (arith, removePresent-size (tree (heap b) (m .left)) k (supply (heap b))))
+    remove-left-asks O = up-left (I .path) O (omega (arith, removePresent-size left k (supply (heap b))))
 
     pub remove-right-asks : Outcome b c (At x) (under (m .right)) → Asks c (m .left) x
-    remove-right-asks O = up-right P O (omega (arith, removePresent-size (tree (heap b) (m .right)) k (supply (heap b))))
+    remove-right-asks O = up-right (I .path) O (omega (arith, removePresent-size right k (supply (heap b))))
 
-    pub remove-left : {e : List ℕ} {q : Made} → k < m .key → Outcome b c (At x) (under (m .left)) → Outcome c e q (left (tree (heap c) x) (tree (heap c) (m .right))) → Outcome b e q goal
-    remove-left p O Q = by-left p (out-then left (m .right) (read-right (P .level)) O Q)
-
-    pub remove-right : {e : List ℕ} {q : Made} → k ≢ m .key → m .key ≤ k → Outcome b c (At x) (under (m .right)) → Outcome c e q (right (tree (heap c) x) (tree (heap c) (m .left))) → Outcome b e q goal
-    remove-right p o O Q = by-right p o (out-then right (m .left) (read-left (P .level)) O Q)
+  pub remove-asks : Running b × Named (heap b) (m .left) × Named (heap b) (m .right) × (sizeAt (heap b) (m .left) + sizeAt (heap b) (m .right) < 1048575)
+  remove-asks = (L .running, read-left L, read-right L, omega (arith, read-size L, I .path .small))
