@@ -192,11 +192,11 @@ module _ {b : List ℕ} {k v l r x y : ℕ} (S : Sides b k v l r x y) where
   su : size U ≡ y
   su = tree-size (heap b) (S .asks .0 .linked) r (S .asks .2) ∙ sym (S .right)
 
-  -- a side that is too heavy is a node
-  pub heavy-right : 3 * (x + 1) < y + 1 → Running b × Named (heap b) l × Occupied (heap b) r × (sizeAt (heap b) l + sizeAt (heap b) r < 1048576)
+  -- a side that has a size is a node
+  pub heavy-right : 1 ≤ y → Running b × Named (heap b) l × Occupied (heap b) r × (sizeAt (heap b) l + sizeAt (heap b) r < 1048576)
   heavy-right p = let A = S .asks in (A .0, A .1, sized-occupied (heap b) r (A .2) (omega (arith, p, S .right)), A .3)
 
-  pub heavy-left : 3 * (y + 1) < x + 1 → Running b × Occupied (heap b) l × Named (heap b) r × (sizeAt (heap b) l + sizeAt (heap b) r < 1048576)
+  pub heavy-left : 1 ≤ x → Running b × Occupied (heap b) l × Named (heap b) r × (sizeAt (heap b) l + sizeAt (heap b) r < 1048576)
   heavy-left p = let A = S .asks in (A .0, sized-occupied (heap b) l (A .1) (omega (arith, p, S .left)), A .2, A .3)
 
   module _ {e : List ℕ} {q : Made} where

@@ -53,7 +53,7 @@ insert-read-requires : (t : ℕ) → insert-lts.Need-read-requires (calls t) (in
 insert-read-requires t c κs = let st = c .before .before .before in read-asks (st .args .n) (st .pre .1 .0) (link-occupied (heap (st .args .b .now)) (st .args .n) (st .pre .1 .1) (c .before .if1 .left))
 
 insert-remake-requires : (t : ℕ) → insert-lts.Need-remake-requires (calls t) (insert-at t) insert.Post
-insert-remake-requires t c κs = both ((level t (c .before .before .before)) .path)
+insert-remake-requires t c κs = both (level t (c .before .before .before) .path)
 
 insert-same-length-2 : (t : ℕ) → insert-lts.Need-same-length-2 (calls t) (insert-at t) insert.Post
 insert-same-length-2 t c = search needs
@@ -62,7 +62,7 @@ insert-returns-2 : (t : ℕ) → insert-lts.Need-returns-2 (calls t) (insert-at 
 insert-returns-2 t c = insert-here (level t (c .before .before .before .before .before .before)) (c .before .before .before .before .if2 .taken) (c .before .before .remake .ensures)
 
 insert-insert-requires : (t : ℕ) → insert-lts.Need-insert-requires (calls t) (insert-at t) insert.Post
-insert-insert-requires t c κs = down-left ((level t (c .before .before .before .before .before)) .path) (c .before .before .before .before .before .before .before .before .before .pre .0)
+insert-insert-requires t c κs = down-left (level t (c .before .before .before .before .before) .path) (c .before .before .before .before .before .before .before .before .before .pre .0)
 
 insert-enum-known-left : (t : ℕ) → insert-lts.Need-enum-known-left (calls t) (insert-at t) insert.Post
 insert-enum-known-left t c = search needs
@@ -86,7 +86,7 @@ insert-returns-4 : (t : ℕ) → insert-lts.Need-returns-4 (calls t) (insert-at 
 insert-returns-4 t c = above-last (insert-left (level t (c .before .before .before .before .before .before .before .before .before .before .before .before .before .before .before)) (c .before .before .before .before .before .before .before .before .before .before .before .if3 .taken)) (matched (c .before .before .before .before .before .left .given .1) (c .before .before .before .before .before .before .before .before .before .insert .ensures)) (c .before .before .remake2 .ensures)
 
 insert-insert-requires-2 : (t : ℕ) → insert-lts.Need-insert-requires-2 (calls t) (insert-at t) insert.Post
-insert-insert-requires-2 t c κs = down-right ((level t (c .before .before .before .before .before)) .path) (c .before .before .before .before .before .before .before .before .before .pre .0)
+insert-insert-requires-2 t c κs = down-right (level t (c .before .before .before .before .before) .path) (c .before .before .before .before .before .before .before .before .before .pre .0)
 
 insert-enum-known-right : (t : ℕ) → insert-lts.Need-enum-known-right (calls t) (insert-at t) insert.Post
 insert-enum-known-right t c = search needs

@@ -55,7 +55,7 @@ remove-returns-2 : (t : ℕ) → remove-lts.Need-returns-2 (calls t) (remove-at 
 remove-returns-2 t c = remove-here (level t (c .before .before .before .before .before .before)) (c .before .before .before .before .if2 .taken) (c .before .before .without-key .ensures)
 
 remove-remove-requires : (t : ℕ) → remove-lts.Need-remove-requires (calls t) (remove-at t) remove.Post
-remove-remove-requires t c κs = down-left ((level t (c .before .before .before .before .before)) .path) (c .before .before .before .before .before .before .before .before .before .pre .0)
+remove-remove-requires t c κs = down-left (level t (c .before .before .before .before .before) .path) (c .before .before .before .before .before .before .before .before .before .pre .0)
 
 remove-enum-known-left : (t : ℕ) → remove-lts.Need-enum-known-left (calls t) (remove-at t) remove.Post
 remove-enum-known-left t c = search needs
@@ -79,7 +79,7 @@ remove-returns-4 : (t : ℕ) → remove-lts.Need-returns-4 (calls t) (remove-at 
 remove-returns-4 t c = above-last (remove-left (level t (c .before .before .before .before .before .before .before .before .before .before .before .before .before .before .before)) (c .before .before .before .before .before .before .before .before .before .before .before .if3 .taken)) (matched (c .before .before .before .before .before .left .given .1) (c .before .before .before .before .before .before .before .before .before .remove .ensures)) (c .before .before .balanced .ensures)
 
 remove-remove-requires-2 : (t : ℕ) → remove-lts.Need-remove-requires-2 (calls t) (remove-at t) remove.Post
-remove-remove-requires-2 t c κs = down-right ((level t (c .before .before .before .before .before)) .path) (c .before .before .before .before .before .before .before .before .before .pre .0)
+remove-remove-requires-2 t c κs = down-right (level t (c .before .before .before .before .before) .path) (c .before .before .before .before .before .before .before .before .before .pre .0)
 
 remove-enum-known-right : (t : ℕ) → remove-lts.Need-enum-known-right (calls t) (remove-at t) remove.Post
 remove-enum-known-right t c = search needs

@@ -1,5 +1,6 @@
 -- The sizes read are those of the two trees, so the tests choose the rule's case.
 use borrow.Author.Needs.{needs}
+use native.Mathlib.Omega.{arith}
 use Rattle.tree.proofs.balanced.Statement.{statement}
 use Rattle.tree.proofs.balanced.Tie as tie
 use Rattle.tree.proofs.Turns.{Sides, heavy-left, heavy-right, plain-low, turn-left, turn-right, plain-even}
@@ -37,27 +38,27 @@ mul-if2 : tie.Need-mul-if2
 mul-if2 c = search needs
 
 rotate-left-requires : tie.Need-rotate-left-requires
-rotate-left-requires c κs = heavy-right (sides (c .before .before .before)) (c .before .if2 .taken)
+rotate-left-requires c κs = heavy-right (sides (c .before .before .before)) (omega (arith, c .before .if2 .taken))
 
 same-length-2 : tie.Need-same-length-2
 same-length-2 c = search needs
 
 returns-2 : tie.Need-returns-2
 returns-2 c =
-    turn-left (sides (c .before .before .before .before .before .before)) (c .before .before .before .before .before .if1 .left) (c .before .before .before .before .if2 .taken) (c .before .before .rotate-left .ensures)
+    turn-left (sides (c .before .before .before .before .before .before)) (c .before .before .before .before .before .if1 .left) (omega (arith, c .before .before .before .before .if2 .taken)) (c .before .before .rotate-left .ensures)
 
 mul-if3 : tie.Need-mul-if3
 mul-if3 c = search needs
 
 rotate-right-requires : tie.Need-rotate-right-requires
-rotate-right-requires c κs = heavy-left (sides (c .before .before .before .before)) (c .before .if3 .taken)
+rotate-right-requires c κs = heavy-left (sides (c .before .before .before .before)) (omega (arith, c .before .if3 .taken))
 
 same-length-3 : tie.Need-same-length-3
 same-length-3 c = search needs
 
 returns-3 : tie.Need-returns-3
 returns-3 c =
-    turn-right (sides (c .before .before .before .before .before .before .before)) (c .before .before .before .before .before .before .if1 .left) (c .before .before .before .before .before .if2 .left) (c .before .before .before .before .if3 .taken) (c .before .before .rotate-right .ensures)
+    turn-right (sides (c .before .before .before .before .before .before .before)) (c .before .before .before .before .before .before .if1 .left) (omega (arith, c .before .before .before .before .before .if2 .left)) (omega (arith, c .before .before .before .before .if3 .taken)) (c .before .before .rotate-right .ensures)
 
 make-requires-2 : tie.Need-make-requires-2
 make-requires-2 c κs = search needs
@@ -67,7 +68,7 @@ same-length-4 c = search needs
 
 returns-4 : tie.Need-returns-4
 returns-4 c =
-    plain-even (sides (c .before .before .before .before .before .before .before)) (c .before .before .before .before .before .before .if1 .left) (c .before .before .before .before .before .if2 .left) (c .before .before .before .before .if3 .left) (c .before .before .make2 .ensures)
+    plain-even (sides (c .before .before .before .before .before .before .before)) (c .before .before .before .before .before .before .if1 .left) (omega (arith, c .before .before .before .before .before .if2 .left)) (omega (arith, c .before .before .before .before .if3 .left)) (c .before .before .make2 .ensures)
 
 pub balanced-spec : {M : Type 1} → statement M
 balanced-spec =

@@ -41,10 +41,10 @@ size-at-requires-2 c κs =
     (p .0 .shaped, p .0 .linked, read-right (level (c .before .before .before)))
 
 add-right-weight : tie.Need-add-right-weight
-add-right-weight c = omega (arith, together (heavy (c)))
+add-right-weight c = omega (arith, together (heavy c))
 
 mul-if1 : tie.Need-mul-if1
-mul-if1 c = omega (arith, together (heavy (c)))
+mul-if1 c = omega (arith, together (heavy c))
 
 make-requires : tie.Need-make-requires
 make-requires c κs = left-asks (heavy (c .before .before))
@@ -60,7 +60,7 @@ same-length c = search needs
 
 returns : tie.Need-returns
 returns c =
-    above-stop (left-once (heavy (c .before .before .before .before .before .before .before)) (c .before .before .before .before .before .before .if1 .taken)) (matched (c .enum-told .given .1) (c .before .before .before .before .make .ensures))
+    above-stop (left-once (heavy (c .before .before .before .before .before .before .before)) (omega (arith, c .before .before .before .before .before .before .if1 .taken))) (matched (c .enum-told .given .1) (c .before .before .before .before .make .ensures))
 
 make-requires-2 : tie.Need-make-requires-2
 make-requires-2 c κs =
@@ -71,17 +71,17 @@ same-length-2 c = search needs
 
 returns-2 : tie.Need-returns-2
 returns-2 c =
-    above-last (left-once (heavy (c .before .before .before .before .before .before .before .before .before .before .before .before)) (c .before .before .before .before .before .before .before .before .before .before .before .if1 .taken)) (matched (c .before .before .before .before .before .x .given .1) (c .before .before .before .before .before .before .before .before .before .make .ensures)) (c .before .before .make2 .ensures)
+    above-last (left-once (heavy (c .before .before .before .before .before .before .before .before .before .before .before .before)) (omega (arith, c .before .before .before .before .before .before .before .before .before .before .before .if1 .taken))) (matched (c .before .before .before .before .before .x .given .1) (c .before .before .before .before .before .before .before .before .before .make .ensures)) (c .before .before .make2 .ensures)
 
 twice-requires : tie.Need-twice-requires
-twice-requires c κs = left-inner (heavy (c .before .before)) (c .before .if1 .left)
+twice-requires c κs = left-inner (heavy (c .before .before)) (omega (arith, c .before .if1 .left))
 
 same-length-3 : tie.Need-same-length-3
 same-length-3 c = search needs
 
 returns-3 : tie.Need-returns-3
 returns-3 c =
-    left-twice (heavy (c .before .before .before .before .before)) (c .before .before .before .before .if1 .left) (c .before .before .twice .ensures)
+    left-twice (heavy (c .before .before .before .before .before)) (omega (arith, c .before .before .before .before .if1 .left)) (c .before .before .twice .ensures)
 
 pub rotate-left-spec : {M : Type 1} → statement M
 rotate-left-spec =
