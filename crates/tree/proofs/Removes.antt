@@ -33,8 +33,8 @@ pub balanced-onward : (k v : ℕ) (l r : Tree) → Onward (balanced k v l r)
 balanced-onward k v l r = onward (balanced k v l r) (balanced-steady k v l r)
 
 -- the answer as a match has told it
-pub lost-matched : {b e : List ℕ} {m : Make Least} {r q : Lost} → r ≡ q → Removal b e r m → Removal b e q m
-lost-matched {b} {e} {m} p O = subst (λ z. Removal b e z m) p O
+pub lost-told : {b e : List ℕ} {m : Make Least} (r q : Lost) → r ≡ q → Removal b e r m → Removal b e q m
+lost-told {b} {e} {m} r q p O = subst (λ z. Removal b e z m) p O
 
 -- the minimum of node n was taken out: what is left has one entry fewer
 pub lost-size : {b c : List ℕ} {p : Rest} (n : ℕ) → Running b → Occupied (heap b) n → Removal b c (lost.Into p) (minimum (heap b) n) → suc (sizeAt (heap c) (p .node)) ≡ sizeAt (heap b) n
@@ -54,7 +54,7 @@ lost-size {b} {c} {p} n R o O =
     )
 
 -- y stood meanwhile
-lost-kept : {b c : List ℕ} {p : Rest} {m : Make Least} → Running b → Removal b c (lost.Into p) m → (y : ℕ) → Named (heap b) y → sizeAt (heap c) y ≡ sizeAt (heap b) y
+pub lost-kept : {b c : List ℕ} {p : Rest} {m : Make Least} → Running b → Removal b c (lost.Into p) m → (y : ℕ) → Named (heap b) y → sizeAt (heap c) y ≡ sizeAt (heap b) y
 lost-kept {b} {c} R O y o = grown-size (heap b) (heap c) y (R .linked) (O .came .running .linked) (O .came .grown) o
 
 -- the minimum of node n, read as m

@@ -185,7 +185,7 @@ fn without_key(b: &mut [u32], left: u32, right: u32) -> Made
     balanced(b, min.key, min.value, left, min.node)
 }
 
-// Remove below n, for a key that is present: its node gives way, ancestors are balanced makes.
+// Remove below n: the key's node gives way, ancestors are balanced makes. A path to a key that is present does not end in 0.
 pub fn remove(b: &mut [u32], n: u32, key: u32) -> Made
     requires { ⌜ Running (now b) × Named (heap (now b)) n × (sizeAt (heap (now b)) n < 1048575) ⌝ }
     ensures { λ r. ⌜ Outcome (now (b .entry)) (now (b .exit)) r (removePresent (tree (heap (now (b .entry))) n) key) ⌝ }

@@ -18,7 +18,8 @@ use Rattle.tree.proofs.remake.Kinds as remake-kinds
 use Rattle.model.specs.Block.{heap}
 use Rattle.model.specs.Heap.{sizeAt}
 use Rattle.model.proofs.Lookups.{link-occupied}
-use Rattle.block.proofs.Levels.{read-asks, matched, above-stop, above-last}
+use Rattle.block.proofs.Outcomes.{told}
+use Rattle.block.proofs.Levels.{read-asks, above-stop, above-last}
 use Rattle.tree.proofs.Paths.{both, down-left, down-right}
 use Rattle.tree.proofs.Inserts.{Insertion, insert-none, insert-here, insert-left, insert-right, insert-left-asks, insert-right-asks}
 
@@ -74,16 +75,16 @@ insert-same-length-3 : (t : ℕ) → insert-lts.Need-same-length-3 (calls t) (in
 insert-same-length-3 t c = search needs
 
 insert-returns-3 : (t : ℕ) → insert-lts.Need-returns-3 (calls t) (insert-at t) insert.Post
-insert-returns-3 t c = above-stop (insert-left (level t (c .before .before .before .before .before .before .before .before .before .before)) (c .before .before .before .before .before .before .if3 .taken)) (matched (c .enum-told .given .1) (c .before .before .before .before .insert .ensures))
+insert-returns-3 t c = above-stop (insert-left (level t (c .before .before .before .before .before .before .before .before .before .before)) (c .before .before .before .before .before .before .if3 .taken)) (told _ _ (c .enum-told .given .1) (c .before .before .before .before .insert .ensures))
 
 insert-remake-requires-2 : (t : ℕ) → insert-lts.Need-remake-requires-2 (calls t) (insert-at t) insert.Post
-insert-remake-requires-2 t c κs = insert-left-asks (level t (c .before .before .before .before .before .before .before .before .before .before .before .before)) (matched (c .before .before .left .given .1) (c .before .before .before .before .before .before .insert .ensures))
+insert-remake-requires-2 t c κs = insert-left-asks (level t (c .before .before .before .before .before .before .before .before .before .before .before .before)) (told _ _ (c .before .before .left .given .1) (c .before .before .before .before .before .before .insert .ensures))
 
 insert-same-length-4 : (t : ℕ) → insert-lts.Need-same-length-4 (calls t) (insert-at t) insert.Post
 insert-same-length-4 t c = search needs
 
 insert-returns-4 : (t : ℕ) → insert-lts.Need-returns-4 (calls t) (insert-at t) insert.Post
-insert-returns-4 t c = above-last (insert-left (level t (c .before .before .before .before .before .before .before .before .before .before .before .before .before .before .before)) (c .before .before .before .before .before .before .before .before .before .before .before .if3 .taken)) (matched (c .before .before .before .before .before .left .given .1) (c .before .before .before .before .before .before .before .before .before .insert .ensures)) (c .before .before .remake2 .ensures)
+insert-returns-4 t c = above-last (insert-left (level t (c .before .before .before .before .before .before .before .before .before .before .before .before .before .before .before)) (c .before .before .before .before .before .before .before .before .before .before .before .if3 .taken)) (told _ _ (c .before .before .before .before .before .left .given .1) (c .before .before .before .before .before .before .before .before .before .insert .ensures)) (c .before .before .remake2 .ensures)
 
 insert-insert-requires-2 : (t : ℕ) → insert-lts.Need-insert-requires-2 (calls t) (insert-at t) insert.Post
 insert-insert-requires-2 t c κs = down-right (level t (c .before .before .before .before .before) .path) (c .before .before .before .before .before .before .before .before .before .pre .0)
@@ -98,16 +99,16 @@ insert-same-length-5 : (t : ℕ) → insert-lts.Need-same-length-5 (calls t) (in
 insert-same-length-5 t c = search needs
 
 insert-returns-5 : (t : ℕ) → insert-lts.Need-returns-5 (calls t) (insert-at t) insert.Post
-insert-returns-5 t c = above-stop (insert-right (level t (c .before .before .before .before .before .before .before .before .before .before)) (c .before .before .before .before .before .before .before .before .if2 .left) (c .before .before .before .before .before .before .if3 .left)) (matched (c .enum-told2 .given .1) (c .before .before .before .before .insert2 .ensures))
+insert-returns-5 t c = above-stop (insert-right (level t (c .before .before .before .before .before .before .before .before .before .before)) (c .before .before .before .before .before .before .before .before .if2 .left) (c .before .before .before .before .before .before .if3 .left)) (told _ _ (c .enum-told2 .given .1) (c .before .before .before .before .insert2 .ensures))
 
 insert-remake-requires-3 : (t : ℕ) → insert-lts.Need-remake-requires-3 (calls t) (insert-at t) insert.Post
-insert-remake-requires-3 t c κs = insert-right-asks (level t (c .before .before .before .before .before .before .before .before .before .before .before .before)) (matched (c .before .before .right .given .1) (c .before .before .before .before .before .before .insert2 .ensures))
+insert-remake-requires-3 t c κs = insert-right-asks (level t (c .before .before .before .before .before .before .before .before .before .before .before .before)) (told _ _ (c .before .before .right .given .1) (c .before .before .before .before .before .before .insert2 .ensures))
 
 insert-same-length-6 : (t : ℕ) → insert-lts.Need-same-length-6 (calls t) (insert-at t) insert.Post
 insert-same-length-6 t c = search needs
 
 insert-returns-6 : (t : ℕ) → insert-lts.Need-returns-6 (calls t) (insert-at t) insert.Post
-insert-returns-6 t c = above-last (insert-right (level t (c .before .before .before .before .before .before .before .before .before .before .before .before .before .before .before)) (c .before .before .before .before .before .before .before .before .before .before .before .before .before .if2 .left) (c .before .before .before .before .before .before .before .before .before .before .before .if3 .left)) (matched (c .before .before .before .before .before .right .given .1) (c .before .before .before .before .before .before .before .before .before .insert2 .ensures)) (c .before .before .remake3 .ensures)
+insert-returns-6 t c = above-last (insert-right (level t (c .before .before .before .before .before .before .before .before .before .before .before .before .before .before .before)) (c .before .before .before .before .before .before .before .before .before .before .before .before .before .if2 .left) (c .before .before .before .before .before .before .before .before .before .before .before .if3 .left)) (told _ _ (c .before .before .before .before .before .right .given .1) (c .before .before .before .before .before .before .before .before .before .insert2 .ensures)) (c .before .before .remake3 .ensures)
 
 pub +insert-spec : {M : Type 1} → statement M
 +insert-spec = close μ-insert λ t. insert-lts.spec (calls t)

@@ -17,7 +17,8 @@ use Rattle.tree.proofs.without_key.Kinds as without-key-kinds
 use Rattle.model.specs.Block.{heap}
 use Rattle.model.specs.Heap.{sizeAt}
 use Rattle.model.proofs.Lookups.{link-occupied}
-use Rattle.block.proofs.Levels.{read-asks, matched, above-stop, above-last}
+use Rattle.block.proofs.Outcomes.{told}
+use Rattle.block.proofs.Levels.{read-asks, above-stop, above-last}
 use Rattle.tree.proofs.Paths.{down-left, down-right}
 use Rattle.tree.proofs.Removes.{Removing, remove-none, remove-here, remove-asks, remove-left, remove-right, remove-left-asks, remove-right-asks}
 
@@ -67,16 +68,16 @@ remove-same-length-2 : (t : ℕ) → remove-lts.Need-same-length-2 (calls t) (re
 remove-same-length-2 t c = search needs
 
 remove-returns-3 : (t : ℕ) → remove-lts.Need-returns-3 (calls t) (remove-at t) remove.Post
-remove-returns-3 t c = above-stop (remove-left (level t (c .before .before .before .before .before .before .before .before .before .before)) (c .before .before .before .before .before .before .if3 .taken)) (matched (c .enum-told .given .1) (c .before .before .before .before .remove .ensures))
+remove-returns-3 t c = above-stop (remove-left (level t (c .before .before .before .before .before .before .before .before .before .before)) (c .before .before .before .before .before .before .if3 .taken)) (told _ _ (c .enum-told .given .1) (c .before .before .before .before .remove .ensures))
 
 remove-balanced-requires : (t : ℕ) → remove-lts.Need-balanced-requires (calls t) (remove-at t) remove.Post
-remove-balanced-requires t c κs = remove-left-asks (level t (c .before .before .before .before .before .before .before .before .before .before .before .before)) (matched (c .before .before .left .given .1) (c .before .before .before .before .before .before .remove .ensures))
+remove-balanced-requires t c κs = remove-left-asks (level t (c .before .before .before .before .before .before .before .before .before .before .before .before)) (told _ _ (c .before .before .left .given .1) (c .before .before .before .before .before .before .remove .ensures))
 
 remove-same-length-3 : (t : ℕ) → remove-lts.Need-same-length-3 (calls t) (remove-at t) remove.Post
 remove-same-length-3 t c = search needs
 
 remove-returns-4 : (t : ℕ) → remove-lts.Need-returns-4 (calls t) (remove-at t) remove.Post
-remove-returns-4 t c = above-last (remove-left (level t (c .before .before .before .before .before .before .before .before .before .before .before .before .before .before .before)) (c .before .before .before .before .before .before .before .before .before .before .before .if3 .taken)) (matched (c .before .before .before .before .before .left .given .1) (c .before .before .before .before .before .before .before .before .before .remove .ensures)) (c .before .before .balanced .ensures)
+remove-returns-4 t c = above-last (remove-left (level t (c .before .before .before .before .before .before .before .before .before .before .before .before .before .before .before)) (c .before .before .before .before .before .before .before .before .before .before .before .if3 .taken)) (told _ _ (c .before .before .before .before .before .left .given .1) (c .before .before .before .before .before .before .before .before .before .remove .ensures)) (c .before .before .balanced .ensures)
 
 remove-remove-requires-2 : (t : ℕ) → remove-lts.Need-remove-requires-2 (calls t) (remove-at t) remove.Post
 remove-remove-requires-2 t c κs = down-right (level t (c .before .before .before .before .before) .path) (c .before .before .before .before .before .before .before .before .before .pre .0)
@@ -91,16 +92,16 @@ remove-same-length-4 : (t : ℕ) → remove-lts.Need-same-length-4 (calls t) (re
 remove-same-length-4 t c = search needs
 
 remove-returns-5 : (t : ℕ) → remove-lts.Need-returns-5 (calls t) (remove-at t) remove.Post
-remove-returns-5 t c = above-stop (remove-right (level t (c .before .before .before .before .before .before .before .before .before .before)) (c .before .before .before .before .before .before .before .before .if2 .left) (c .before .before .before .before .before .before .if3 .left)) (matched (c .enum-told2 .given .1) (c .before .before .before .before .remove2 .ensures))
+remove-returns-5 t c = above-stop (remove-right (level t (c .before .before .before .before .before .before .before .before .before .before)) (c .before .before .before .before .before .before .before .before .if2 .left) (c .before .before .before .before .before .before .if3 .left)) (told _ _ (c .enum-told2 .given .1) (c .before .before .before .before .remove2 .ensures))
 
 remove-balanced-requires-2 : (t : ℕ) → remove-lts.Need-balanced-requires-2 (calls t) (remove-at t) remove.Post
-remove-balanced-requires-2 t c κs = remove-right-asks (level t (c .before .before .before .before .before .before .before .before .before .before .before .before)) (matched (c .before .before .right .given .1) (c .before .before .before .before .before .before .remove2 .ensures))
+remove-balanced-requires-2 t c κs = remove-right-asks (level t (c .before .before .before .before .before .before .before .before .before .before .before .before)) (told _ _ (c .before .before .right .given .1) (c .before .before .before .before .before .before .remove2 .ensures))
 
 remove-same-length-5 : (t : ℕ) → remove-lts.Need-same-length-5 (calls t) (remove-at t) remove.Post
 remove-same-length-5 t c = search needs
 
 remove-returns-6 : (t : ℕ) → remove-lts.Need-returns-6 (calls t) (remove-at t) remove.Post
-remove-returns-6 t c = above-last (remove-right (level t (c .before .before .before .before .before .before .before .before .before .before .before .before .before .before .before)) (c .before .before .before .before .before .before .before .before .before .before .before .before .before .if2 .left) (c .before .before .before .before .before .before .before .before .before .before .before .if3 .left)) (matched (c .before .before .before .before .before .right .given .1) (c .before .before .before .before .before .before .before .before .before .remove2 .ensures)) (c .before .before .balanced2 .ensures)
+remove-returns-6 t c = above-last (remove-right (level t (c .before .before .before .before .before .before .before .before .before .before .before .before .before .before .before)) (c .before .before .before .before .before .before .before .before .before .before .before .before .before .if2 .left) (c .before .before .before .before .before .before .before .before .before .before .before .if3 .left)) (told _ _ (c .before .before .before .before .before .right .given .1) (c .before .before .before .before .before .before .before .before .before .remove2 .ensures)) (c .before .before .balanced2 .ensures)
 
 pub +remove-spec : {M : Type 1} → statement M
 +remove-spec = close μ-remove λ t. remove-lts.spec (calls t)

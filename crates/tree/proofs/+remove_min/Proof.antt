@@ -14,9 +14,10 @@ use Rattle.block.proofs.read.Kinds as read-kinds
 use Rattle.tree.proofs.balanced.Kinds as balanced-kinds
 use Rattle.model.specs.Block.{heap}
 use Rattle.model.specs.Heap.{sizeAt}
-use Rattle.block.proofs.Levels.{read-asks, matched}
+use Rattle.block.proofs.Outcomes.{told}
+use Rattle.block.proofs.Levels.{read-asks}
 use Rattle.tree.proofs.Paths.{Path}
-use Rattle.tree.proofs.Removes.{lost-matched, min-here, min-down, min-stop, min-asks, min-stop-2, min-last}
+use Rattle.tree.proofs.Removes.{lost-told, min-here, min-down, min-stop, min-asks, min-stop-2, min-last}
 
 abbrev μ-remove-min : Measures 1 remove-min-kinds.ps ℕ
 μ-remove-min κs a = sizeAt (heap (a .0 .now)) (a .1 .0)
@@ -55,10 +56,10 @@ remove-min-same-length-2 : (t : ℕ) → remove-min-lts.Need-same-length-2 (call
 remove-min-same-length-2 t c = search needs
 
 remove-min-returns-2 : (t : ℕ) → remove-min-lts.Need-returns-2 (calls t) (remove-min-at t) remove-min.Post
-remove-min-returns-2 t c = min-stop (path t (c .before .before .before .before .before .before .before .before)) (c .before .before .before .before .before .before .if1 .left) (lost-matched (c .enum-told .given .1) (c .before .before .before .before .remove-min .ensures))
+remove-min-returns-2 t c = min-stop (path t (c .before .before .before .before .before .before .before .before)) (c .before .before .before .before .before .before .if1 .left) (lost-told _ _ (c .enum-told .given .1) (c .before .before .before .before .remove-min .ensures))
 
 remove-min-balanced-requires : (t : ℕ) → remove-min-lts.Need-balanced-requires (calls t) (remove-min-at t) remove-min.Post
-remove-min-balanced-requires t c κs = min-asks (path t (c .before .before .before .before .before .before .before .before .before .before)) (c .before .before .before .before .before .before .before .before .if1 .left) (lost-matched (c .before .before .min .given .1) (c .before .before .before .before .before .before .remove-min .ensures))
+remove-min-balanced-requires t c κs = min-asks (path t (c .before .before .before .before .before .before .before .before .before .before)) (c .before .before .before .before .before .before .before .before .if1 .left) (lost-told _ _ (c .before .before .min .given .1) (c .before .before .before .before .before .before .remove-min .ensures))
 
 remove-min-enum-known-top : (t : ℕ) → remove-min-lts.Need-enum-known-top (calls t) (remove-min-at t) remove-min.Post
 remove-min-enum-known-top t c = search needs
@@ -70,13 +71,13 @@ remove-min-same-length-3 : (t : ℕ) → remove-min-lts.Need-same-length-3 (call
 remove-min-same-length-3 t c = search needs
 
 remove-min-returns-3 : (t : ℕ) → remove-min-lts.Need-returns-3 (calls t) (remove-min-at t) remove-min.Post
-remove-min-returns-3 t c = min-stop-2 (path t (c .before .before .before .before .before .before .before .before .before .before .before .before .before .before .before)) (c .before .before .before .before .before .before .before .before .before .before .before .before .before .if1 .left) (lost-matched (c .before .before .before .before .before .before .before .min .given .1) (c .before .before .before .before .before .before .before .before .before .before .before .remove-min .ensures)) (matched (c .enum-told2 .given .1) (c .before .before .before .before .balanced .ensures))
+remove-min-returns-3 t c = min-stop-2 (path t (c .before .before .before .before .before .before .before .before .before .before .before .before .before .before .before)) (c .before .before .before .before .before .before .before .before .before .before .before .before .before .if1 .left) (lost-told _ _ (c .before .before .before .before .before .before .before .min .given .1) (c .before .before .before .before .before .before .before .before .before .before .before .remove-min .ensures)) (told _ _ (c .enum-told2 .given .1) (c .before .before .before .before .balanced .ensures))
 
 remove-min-same-length-4 : (t : ℕ) → remove-min-lts.Need-same-length-4 (calls t) (remove-min-at t) remove-min.Post
 remove-min-same-length-4 t c = search needs
 
 remove-min-returns-4 : (t : ℕ) → remove-min-lts.Need-returns-4 (calls t) (remove-min-at t) remove-min.Post
-remove-min-returns-4 t c = min-last (path t (c .before .before .before .before .before .before .before .before .before .before .before .before .before .before .before .before)) (c .before .before .before .before .before .before .before .before .before .before .before .before .before .before .if1 .left) (lost-matched (c .before .before .before .before .before .before .before .before .min .given .1) (c .before .before .before .before .before .before .before .before .before .before .before .before .remove-min .ensures)) (matched (c .before .top .given .1) (c .before .before .before .before .before .balanced .ensures))
+remove-min-returns-4 t c = min-last (path t (c .before .before .before .before .before .before .before .before .before .before .before .before .before .before .before .before)) (c .before .before .before .before .before .before .before .before .before .before .before .before .before .before .if1 .left) (lost-told _ _ (c .before .before .before .before .before .before .before .before .min .given .1) (c .before .before .before .before .before .before .before .before .before .before .before .before .remove-min .ensures)) (told _ _ (c .before .top .given .1) (c .before .before .before .before .before .balanced .ensures))
 
 pub +remove-min-spec : {M : Type 1} → statement M
 +remove-min-spec = close μ-remove-min λ t. remove-min-lts.spec (calls t)

@@ -3,7 +3,8 @@ use borrow.Author.Needs.{needs}
 use native.Mathlib.Omega.{arith}
 use Rattle.tree.proofs.rotate_right.Statement.{statement}
 use Rattle.tree.proofs.rotate_right.Tie as tie
-use Rattle.block.proofs.Levels.{Level, read-asks, read-left, read-right, read-size, matched, above-stop, above-last}
+use Rattle.block.proofs.Outcomes.{told}
+use Rattle.block.proofs.Levels.{Level, read-asks, read-left, read-right, read-size, above-stop, above-last}
 use Rattle.tree.proofs.Turns.{Heavy, together, right-asks, right-asks-2, right-once, right-inner, right-twice}
 
 level : (c : tie.After-read) → let a = c .before .before .before .args in Level (a .b .now) (a .left) (c .read .result)
@@ -60,18 +61,18 @@ same-length c = search needs
 
 returns : tie.Need-returns
 returns c =
-    above-stop (right-once (heavy (c .before .before .before .before .before .before .before)) (omega (arith, c .before .before .before .before .before .before .if1 .taken))) (matched (c .enum-told .given .1) (c .before .before .before .before .make .ensures))
+    above-stop (right-once (heavy (c .before .before .before .before .before .before .before)) (omega (arith, c .before .before .before .before .before .before .if1 .taken))) (told _ _ (c .enum-told .given .1) (c .before .before .before .before .make .ensures))
 
 make-requires-2 : tie.Need-make-requires-2
 make-requires-2 c κs =
-    right-asks-2 (heavy (c .before .before .before .before .before .before .before .before .before)) (matched (c .before .before .x .given .1) (c .before .before .before .before .before .before .make .ensures))
+    right-asks-2 (heavy (c .before .before .before .before .before .before .before .before .before)) (told _ _ (c .before .before .x .given .1) (c .before .before .before .before .before .before .make .ensures))
 
 same-length-2 : tie.Need-same-length-2
 same-length-2 c = search needs
 
 returns-2 : tie.Need-returns-2
 returns-2 c =
-    above-last (right-once (heavy (c .before .before .before .before .before .before .before .before .before .before .before .before)) (omega (arith, c .before .before .before .before .before .before .before .before .before .before .before .if1 .taken))) (matched (c .before .before .before .before .before .x .given .1) (c .before .before .before .before .before .before .before .before .before .make .ensures)) (c .before .before .make2 .ensures)
+    above-last (right-once (heavy (c .before .before .before .before .before .before .before .before .before .before .before .before)) (omega (arith, c .before .before .before .before .before .before .before .before .before .before .before .if1 .taken))) (told _ _ (c .before .before .before .before .before .x .given .1) (c .before .before .before .before .before .before .before .before .before .make .ensures)) (c .before .before .make2 .ensures)
 
 twice-requires : tie.Need-twice-requires
 twice-requires c κs = right-inner (heavy (c .before .before)) (omega (arith, c .before .if1 .left))

@@ -2,7 +2,8 @@
 use borrow.Author.Needs.{needs}
 use Rattle.tree.proofs.twice.Statement.{statement}
 use Rattle.tree.proofs.twice.Tie as tie
-use Rattle.block.proofs.Levels.{read-asks, matched}
+use Rattle.block.proofs.Outcomes.{told}
+use Rattle.block.proofs.Levels.{read-asks}
 use Rattle.tree.proofs.Turns.{Middle, twice-asks, twice-stop, twice-asks-2, twice-stop-2, twice-asks-3, twice-last}
 
 middle : (c : tie.After-read) → let a = c .before .before .before .args in Middle (a .b .now) (a .key) (a .value) (a .left) (a .middle) (a .k) (a .v) (a .right) (c .read .result)
@@ -29,11 +30,11 @@ same-length c = search needs
 
 returns : tie.Need-returns
 returns c =
-    twice-stop (middle (c .before .before .before .before .before .before)) (matched (c .enum-told .given .1) (c .before .before .before .before .make .ensures))
+    twice-stop (middle (c .before .before .before .before .before .before)) (told _ _ (c .enum-told .given .1) (c .before .before .before .before .make .ensures))
 
 make-requires-2 : tie.Need-make-requires-2
 make-requires-2 c κs =
-    twice-asks-2 (middle (c .before .before .before .before .before .before .before .before)) (matched (c .before .before .x .given .1) (c .before .before .before .before .before .before .make .ensures))
+    twice-asks-2 (middle (c .before .before .before .before .before .before .before .before)) (told _ _ (c .before .before .x .given .1) (c .before .before .before .before .before .before .make .ensures))
 
 enum-known-y : tie.Need-enum-known-y
 enum-known-y c = search needs
@@ -46,18 +47,18 @@ same-length-2 c = search needs
 
 returns-2 : tie.Need-returns-2
 returns-2 c =
-    twice-stop-2 (middle (c .before .before .before .before .before .before .before .before .before .before .before .before .before)) (matched (c .before .before .before .before .before .before .before .x .given .1) (c .before .before .before .before .before .before .before .before .before .before .before .make .ensures)) (matched (c .enum-told2 .given .1) (c .before .before .before .before .make2 .ensures))
+    twice-stop-2 (middle (c .before .before .before .before .before .before .before .before .before .before .before .before .before)) (told _ _ (c .before .before .before .before .before .before .before .x .given .1) (c .before .before .before .before .before .before .before .before .before .before .before .make .ensures)) (told _ _ (c .enum-told2 .given .1) (c .before .before .before .before .make2 .ensures))
 
 make-requires-3 : tie.Need-make-requires-3
 make-requires-3 c κs =
-    twice-asks-3 (middle (c .before .before .before .before .before .before .before .before .before .before .before .before .before .before .before)) (matched (c .before .before .before .before .before .before .before .before .before .x .given .1) (c .before .before .before .before .before .before .before .before .before .before .before .before .before .make .ensures)) (matched (c .before .before .y .given .1) (c .before .before .before .before .before .before .make2 .ensures))
+    twice-asks-3 (middle (c .before .before .before .before .before .before .before .before .before .before .before .before .before .before .before)) (told _ _ (c .before .before .before .before .before .before .before .before .before .x .given .1) (c .before .before .before .before .before .before .before .before .before .before .before .before .before .make .ensures)) (told _ _ (c .before .before .y .given .1) (c .before .before .before .before .before .before .make2 .ensures))
 
 same-length-3 : tie.Need-same-length-3
 same-length-3 c = search needs
 
 returns-3 : tie.Need-returns-3
 returns-3 c =
-    twice-last (middle (c .before .before .before .before .before .before .before .before .before .before .before .before .before .before .before .before .before .before)) (matched (c .before .before .before .before .before .before .before .before .before .before .before .before .x .given .1) (c .before .before .before .before .before .before .before .before .before .before .before .before .before .before .before .before .make .ensures)) (matched (c .before .before .before .before .before .y .given .1) (c .before .before .before .before .before .before .before .before .before .make2 .ensures)) (c .before .before .make3 .ensures)
+    twice-last (middle (c .before .before .before .before .before .before .before .before .before .before .before .before .before .before .before .before .before .before)) (told _ _ (c .before .before .before .before .before .before .before .before .before .before .before .before .x .given .1) (c .before .before .before .before .before .before .before .before .before .before .before .before .before .before .before .before .make .ensures)) (told _ _ (c .before .before .before .before .before .y .given .1) (c .before .before .before .before .before .before .before .before .before .make2 .ensures)) (c .before .before .make3 .ensures)
 
 pub twice-spec : {M : Type 1} → statement M
 twice-spec =

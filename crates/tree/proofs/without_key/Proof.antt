@@ -3,7 +3,7 @@ use borrow.Author.Needs.{needs}
 use Rattle.tree.proofs.without_key.Statement.{statement}
 use Rattle.tree.proofs.without_key.Tie as tie
 use Rattle.model.specs.Rules.{balanced}
-use Rattle.tree.proofs.Removes.{balanced-onward, lost-matched, sole-right, sole-left, without-min, without-stop, without-asks, without-last}
+use Rattle.tree.proofs.Removes.{balanced-onward, lost-told, sole-right, sole-left, without-min, without-stop, without-asks, without-last}
 
 returns : tie.Need-returns
 returns c =
@@ -32,12 +32,12 @@ same-length c = search needs
 returns-3 : tie.Need-returns-3
 returns-3 c =
     let s = c .before .before .before .before .before .before .before .before .before in
-    without-stop balanced (s .args .left) (s .args .right) (s .pre) (c .before .before .before .before .before .before .before .if1 .left) (c .before .before .before .before .before .before .if2 .left) balanced-onward (lost-matched (c .enum-told .given .1) (c .before .before .before .before .remove-min .ensures))
+    without-stop balanced (s .args .left) (s .args .right) (s .pre) (c .before .before .before .before .before .before .before .if1 .left) (c .before .before .before .before .before .before .if2 .left) balanced-onward (lost-told _ _ (c .enum-told .given .1) (c .before .before .before .before .remove-min .ensures))
 
 balanced-requires : tie.Need-balanced-requires
 balanced-requires c κs =
     let s = c .before .before .before .before .before .before .before .before .before .before .before in
-    without-asks balanced (s .args .left) (s .args .right) (s .pre) (c .before .before .before .before .before .before .before .before .before .if1 .left) (c .before .before .before .before .before .before .before .before .if2 .left) (lost-matched (c .before .before .min .given .1) (c .before .before .before .before .before .before .remove-min .ensures))
+    without-asks balanced (s .args .left) (s .args .right) (s .pre) (c .before .before .before .before .before .before .before .before .before .if1 .left) (c .before .before .before .before .before .before .before .before .if2 .left) (lost-told _ _ (c .before .before .min .given .1) (c .before .before .before .before .before .before .remove-min .ensures))
 
 same-length-2 : tie.Need-same-length-2
 same-length-2 c = search needs
@@ -45,7 +45,7 @@ same-length-2 c = search needs
 returns-4 : tie.Need-returns-4
 returns-4 c =
     let s = c .before .before .before .before .before .before .before .before .before .before .before .before .before .before in
-    without-last balanced (s .args .left) (s .args .right) (s .pre) (c .before .before .before .before .before .before .before .before .before .before .before .before .if1 .left) (c .before .before .before .before .before .before .before .before .before .before .before .if2 .left) (lost-matched (c .before .before .before .before .before .min .given .1) (c .before .before .before .before .before .before .before .before .before .remove-min .ensures)) (c .before .before .balanced .ensures)
+    without-last balanced (s .args .left) (s .args .right) (s .pre) (c .before .before .before .before .before .before .before .before .before .before .before .before .if1 .left) (c .before .before .before .before .before .before .before .before .before .before .before .if2 .left) (lost-told _ _ (c .before .before .before .before .before .min .given .1) (c .before .before .before .before .before .before .before .before .before .remove-min .ensures)) (c .before .before .balanced .ensures)
 
 pub without-key-spec : {M : Type 1} → statement M
 without-key-spec =
