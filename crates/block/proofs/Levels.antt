@@ -10,12 +10,13 @@ use Rattle.model.specs.Block.{heap, room, Shaped}
 use Rattle.model.specs.Moves.{Running}
 use Rattle.model.proofs.Loads.{tree-node, tree-size, sizeAt-occupied}
 use Rattle.model.proofs.Growing.{grown-size}
+use Rattle.model.proofs.Steady.{Onward}
 use Rattle.model.proofs.Sizes.{make-size}
 use Rattle.block.specs.declared.Node.{Node}
 use Rattle.block.specs.declared.Made.{Made}
-use Rattle.block.specs.declared.Made.the-variants.{At}
+use Rattle.block.specs.declared.Made.the-variants.{At, Full}
 use Rattle.block.specs.Outcome.{Outcome, nodeOf}
-use Rattle.block.proofs.Outcomes.{out-bind, out-size}
+use Rattle.block.proofs.Outcomes.{out-bind, out-stop, out-size}
 
 -- what a make of l and r asks
 abbrev pub Asks : List ℕ → ℕ → ℕ → Type 0
@@ -68,10 +69,23 @@ module _ {b c : List ℕ} {x : ℕ} {m : Make Tree} (R : Running b) (O : Outcome
   pub then-right : sizeAt (heap b) y + sizeAt (heap c) x < 1048576 → Asks c y x
   then-right p = (O .came .running, O .came .grown .kept y o, O .named, omega (arith, out-same R O y o))
 
+-- a rule that adds at most one to the tree below y has made x
+pub out-most : {b c : List ℕ} {x : ℕ} {m : Make Tree} (y : ℕ) → Running b → Named (heap b) y → Outcome b c (At x) m → size (m (supply (heap b)) .0) ≤ suc (size (tree (heap b) y)) → sizeAt (heap c) x ≤ suc (sizeAt (heap b) y)
+out-most {b} {c} {x} {m} y R o O p = omega (arith, out-size b c x m O, tree-size (heap b) (R .linked) y o)
+
 -- a rule, then one of what it made and of a link that stood: for a link on the left, mk takes its trees the other way round
 pub out-then : {b c e : List ℕ} {x : ℕ} {q : Made} {m : Make Tree} (mk : Tree → Tree → Make Tree) (y : ℕ) → Named (heap b) y → Outcome b c (At x) m → Outcome c e q (mk (tree (heap c) x) (tree (heap c) y)) → Outcome b e q (m >>= λ t. mk t (tree (heap b) y))
 out-then {b} {c} {e} {x} {q} {m} mk y o O P = out-bind b c e x q m (λ t. mk t (tree (heap b) y)) O (subst (λ t. Outcome c e q (mk (tree (heap c) x) t)) (O .came .grown .trees y o) P)
 
--- a rule that adds at most one to the tree below y has made x
-pub out-most : {b c : List ℕ} {x : ℕ} {m : Make Tree} (y : ℕ) → Running b → Named (heap b) y → Outcome b c (At x) m → size (m (supply (heap b)) .0) ≤ suc (size (tree (heap b) y)) → sizeAt (heap c) x ≤ suc (sizeAt (heap b) y)
-out-most {b} {c} {x} {m} y R o O p = omega (arith, out-size b c x m O, tree-size (heap b) (R .linked) y o)
+-- the rule `goal` at a node: `low` below it, then mk of what that made and of the other side y
+pub record Above (b : List ℕ) (goal low : Make Tree) (mk : Tree → Tree → Make Tree) (y : ℕ) : Type 0 where
+  pub other : Named (heap b) y
+  pub onward : (t : Tree) → Onward (mk t (tree (heap b) y))
+  pub by : (e : List ℕ) (q : Made) → Outcome b e q (low >>= λ t. mk t (tree (heap b) y)) → Outcome b e q goal
+
+module _ {b : List ℕ} {goal low : Make Tree} {mk : Tree → Tree → Make Tree} {y : ℕ} (A : Above b goal low mk y) where
+  pub above-stop : {e : List ℕ} → Outcome b e Full low → Outcome b e Full goal
+  above-stop {e} O = A .by e Full (out-stop b e low (λ t. mk t (tree (heap b) y)) O (A .onward))
+
+  pub above-last : {c e : List ℕ} {x : ℕ} {q : Made} → Outcome b c (At x) low → Outcome c e q (mk (tree (heap c) x) (tree (heap c) y)) → Outcome b e q goal
+  above-last {c} {e} {x} {q} O P = A .by e q (out-then mk y (A .other) O P)

@@ -1,3 +1,5 @@
 pub mod Turns
+pub mod Paths
 pub mod Inserts
+pub mod Removes
 pub mod Finds
