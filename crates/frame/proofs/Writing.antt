@@ -90,7 +90,7 @@ filled-more {o} {x} {y} {A} {m} F k v n e h w =
     }
 
 -- the six fields written one after another from `at` on
-pub record Fields (o : List ℕ) (at : ℕ) (f : Frame) (o1 o2 o3 o4 o5 o6 : List ℕ) : Type 0 where
+pub record Written (o : List ℕ) (at : ℕ) (f : Frame) (o1 o2 o3 o4 o5 o6 : List ℕ) : Type 0 where
   pub inside : at + 35 ≤ length o
   pub batch : o1 ≡ take at o ++ (digits 8 (f .batch) ++ drop (at + 8) o)
   pub index : o2 ≡ take (at + 8) o1 ++ (digits 4 (f .index) ++ drop (at + 8 + 4) o1)
@@ -100,10 +100,10 @@ pub record Fields (o : List ℕ) (at : ℕ) (f : Frame) (o1 o2 o3 o4 o5 o6 : Lis
   pub value : o6 ≡ take (at + 26) o5 ++ (digits 8 (f .value) ++ drop (at + 26 + 8) o5)
 
 -- and a newline: the frame's line
-pub fields-line : {o : List ℕ} {at : ℕ} {f : Frame} {o1 o2 o3 o4 o5 o6 : List ℕ} → Fields o at f o1 o2 o3 o4 o5 o6
+pub written-line : {o : List ℕ} {at : ℕ} {f : Frame} {o1 o2 o3 o4 o5 o6 : List ℕ} → Written o at f o1 o2 o3 o4 o5 o6
     → set o6 (at + 34) 10 ≡ take at o ++ (line f ++ drop (at + 35) o)
 unfolding line
-fields-line {o} {at} {f} {o1} {o2} {o3} {o4} {o5} {o6} W =
+written-line {o} {at} {f} {o1} {o2} {o3} {o4} {o5} {o6} W =
     let within = W .inside in
     let s0 : Filled o o (take at o) at = record { size = length-take-le at o (omega arith); filled = sym (take-append-drop at o) } in
     let s1 = filled-more s0 8 (f .batch) (at + 8) refl (omega arith) (W .batch) in

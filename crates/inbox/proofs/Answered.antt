@@ -9,20 +9,20 @@ use native.Mathlib.Omega.{arith}
 use native.Mathlib.Decide.{ℕ-discrete}
 use Rattle.model.specs.Inbox.{countOf, SoundInbox, begun, missing, question}
 use Rattle.model.specs.Numbers.{SHAPE, DAMAGED}
-use Rattle.inbox.specs.Answers.{Checked, Begun, Asked}
+use Rattle.inbox.specs.Answers.{CheckedInbox, Begun, Asked}
 
 -- the check
-pub checked-shape : {x : List ℕ} → length x ≢ 130 → Checked x SHAPE
+pub checked-shape : {x : List ℕ} → length x ≢ 130 → CheckedInbox x SHAPE
 checked-shape ne = record { small = omega arith; shape = λ e. ne; shaped = λ n. absurd (n refl); damaged = λ e S. ne (S .long); sound = λ e. absurd (omega arith) }
 
-pub checked-damaged : {x : List ℕ} → length x ≡ 130 → (SoundInbox x → ⊥) → Checked x DAMAGED
+pub checked-damaged : {x : List ℕ} → length x ≡ 130 → (SoundInbox x → ⊥) → CheckedInbox x DAMAGED
 checked-damaged l bad = record { small = omega arith; shape = λ e. absurd (omega arith); shaped = λ n. l; damaged = λ e. bad; sound = λ e. absurd (omega arith) }
 
-pub checked-sound : {x : List ℕ} → SoundInbox x → Checked x 0
+pub checked-sound : {x : List ℕ} → SoundInbox x → CheckedInbox x 0
 checked-sound S = record { small = omega arith; shape = λ e. absurd (omega arith); shaped = λ n. S .long; damaged = λ e. absurd (omega arith); sound = λ e. S }
 
 -- what holds of one answer's number rules the others out
-module _ {x : List ℕ} {r : ℕ} (C : Checked x r) where
+module _ {x : List ℕ} {r : ℕ} (C : CheckedInbox x r) where
   is-shape : length x ≢ 130 → r ≡ SHAPE
   is-shape ne = go (ℕ-discrete r SHAPE)
     where
@@ -47,7 +47,7 @@ module _ {x : List ℕ} {r : ℕ} (C : Checked x r) where
       go (no n) (no m) = omega (arith, C .small)
 
 -- there is one number for each inbox
-pub checked-once : {x : List ℕ} {r s : ℕ} → Checked x r → Checked x s → r ≡ s
+pub checked-once : {x : List ℕ} {r s : ℕ} → CheckedInbox x r → CheckedInbox x s → r ≡ s
 checked-once {x} {r} {s} C D = go (ℕ-discrete r SHAPE) (ℕ-discrete r 0)
   where
     go : Dec (r ≡ SHAPE) → Dec (r ≡ 0) → r ≡ s
@@ -76,7 +76,7 @@ begun-once {x} {a} {b} {batch} {r} {s} A B = go (ℕ-discrete (length x) 130)
     go (no n) = (A .shape n .0 ∙ sym (B .shape n .0), A .shape n .1 ∙ sym (B .shape n .1))
 
 -- the missing question
-pub asked-refused : {x : List ℕ} {r : ℕ} → Checked x r → r ≢ 0 → Asked x r 0
+pub asked-refused : {x : List ℕ} {r : ℕ} → CheckedInbox x r → r ≢ 0 → Asked x r 0
 asked-refused C ne = record { shape = λ n. (is-shape C n, refl); damaged = λ l bad. (is-damaged C l bad, refl); done = λ S. absurd (ne (is-sound C S)) }
 
 asked-done : {x : List ℕ} {m : ℕ} → SoundInbox x → m ≡ question x → Asked x 0 m

@@ -13,8 +13,8 @@ use Rattle.model.specs.Block.{word, bit}
 use Rattle.model.specs.Inbox.{countOf, heardBit, SoundInbox}
 use Rattle.model.proofs.Heard.{unheard-bit}
 use Rattle.inbox.specs.Answers.{Tells}
-use Rattle.inbox.specs.Clear.{WordClear, Below}
-use Rattle.inbox.proofs.Tellings.{tells-eqb}
+use Rattle.inbox.specs.Heard.{WordClear, Below}
+use Rattle.inbox.proofs.Answers.{tells-eqb}
 
 below-pow : (x k : ℕ) → x / 2 ^ k ≡ 0 → x < 2 ^ k
 below-pow x k e =
@@ -42,7 +42,7 @@ no-high (suc d) k x lt f = no-high d k x (below-pow x (k + d) top) (λ j le l. f
 module _ (x : List ℕ) (count w k y : ℕ) (B : Below count (32 * w) k) (e : y ≡ word x (2 + w)) (lt : y < 2 ^ 32) where
   pub word-clear : Tells (eqb (y / 2 ^ k) 0) (WordClear x count w)
   unfolding WordClear
-  word-clear = tells-eqb (y / 2 ^ k) 0 ((j : ℕ) → j < 32 → count ≤ 32 * w + j → bit (word x (2 + w)) j ≡ 0) to back
+  word-clear = tells-eqb (y / 2 ^ k) 0 to back
     where
       to : y / 2 ^ k ≡ 0 → (j : ℕ) → j < 32 → count ≤ 32 * w + j → bit (word x (2 + w)) j ≡ 0
       to z j l le = subst (λ v. bit v j ≡ 0) e (bit-high y k j (below-pow y k z) (B .from j l le))

@@ -1,4 +1,4 @@
-pub mod Tellings
+pub mod Answers
 pub mod Highs
 pub mod Marks
 pub mod Sums

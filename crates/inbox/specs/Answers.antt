@@ -13,13 +13,17 @@ abbrev pub Tells : Bool → Type 0 → Type 0
 Tells true P = P
 Tells false P = P → ⊥
 
--- 0, SHAPE or DAMAGED, each exactly when it is due
-pub record Checked (x : List ℕ) (r : ℕ) : Type 0 where
+-- the number r of what must have a shape and be sound
+pub record Verdict (Shape Sound : Type 0) (r : ℕ) : Type 0 where
   pub small : r ≤ DAMAGED
-  pub shape : r ≡ SHAPE → length x ≢ 130
-  pub shaped : r ≢ SHAPE → length x ≡ 130
-  pub damaged : r ≡ DAMAGED → SoundInbox x → ⊥
-  pub sound : r ≡ 0 → SoundInbox x
+  pub shape : r ≡ SHAPE → Shape → ⊥
+  pub shaped : r ≢ SHAPE → Shape
+  pub damaged : r ≡ DAMAGED → Sound → ⊥
+  pub sound : r ≡ 0 → Sound
+
+-- 0, SHAPE or DAMAGED
+abbrev pub CheckedInbox : List ℕ → ℕ → Type 0
+CheckedInbox x r = Verdict (length x ≡ 130) (SoundInbox x) r
 
 -- begin: SHAPE and nothing changed, or the batch and zeros
 pub record Begun (x after : List ℕ) (batch r : ℕ) : Type 0 where

@@ -5,8 +5,12 @@ ghost use Prim.Native.Nat.{_+_, _^_, _<_, _≤_};
 ghost use lib.ListN.{length, replicate};
 ghost use Rattle.model.specs.Inbox as model;
 ghost use Rattle.model.specs.Inbox.{SoundInbox};
-ghost use Rattle.inbox.specs.Answers.{Tells, Checked, Begun, Asked};
-ghost use Rattle.inbox.specs.Clear.{Below, WordClear};
+ghost use Rattle.inbox.specs.Answers.{Tells, CheckedInbox, Begun, Asked};
+ghost use Rattle.inbox.specs.Heard.{Below, WordClear};
+
+const SHAPE: u32 = 1;
+
+const DAMAGED: u32 = 2;
 
 // A number the call gives back, and how many frames are missing.
 pub struct Reply {
@@ -70,13 +74,13 @@ pub fn sound(x: &[u32]) -> bool
 
 // 0 if the inbox is sound, else SHAPE or DAMAGED.
 pub fn check(x: &[u32]) -> u32
-    ensures { λ r. ⌜ Checked (now (x .entry)) r ⌝ }
+    ensures { λ r. ⌜ CheckedInbox (now (x .entry)) r ⌝ }
 {
     if !shape(x) {
-        return 1;
+        return SHAPE;
     }
     if !sound(x) {
-        return 2;
+        return DAMAGED;
     }
     0
 }
@@ -137,7 +141,7 @@ pub fn begin(x: &mut [u32], batch: u32) -> u32
     ensures { λ r. ⌜ Begun (now (x .entry)) (now (x .exit)) batch r ⌝ }
 {
     if !shape(x) {
-        return 1;
+        return SHAPE;
     }
     clear(x);
     x[0] = batch;

@@ -1,29 +1,24 @@
+-- Below 10 the byte is 48 + n, else 87 + n, as document 01's digits are defined.
 use borrow.Author.Needs.{needs}
+use Rattle.frame.proofs.Values.{digit-low, digit-high}
 use Rattle.frame.proofs.hex_digit.Statement.{statement}
 use Rattle.frame.proofs.hex_digit.Tie as tie
-use Rattle.frame.proofs.Values.{digit-low, digit-high}
 
--- src/lib.rt:35:17
 add-result : tie.Need-add-result
 add-result c = search needs
 
--- src/lib.rt:35:16
 cast-result : tie.Need-cast-result
 cast-result c = search needs
 
--- src/lib.rt:35:9
 returns : tie.Need-returns
 returns c = digit-low _ (c .if1 .taken)
 
--- src/lib.rt:37:6
 add-result-2 : tie.Need-add-result-2
 add-result-2 c = search needs
 
--- src/lib.rt:37:5
 cast-result-2 : tie.Need-cast-result-2
 cast-result-2 c = search needs
 
--- src/lib.rt:30:1
 returns-2 : tie.Need-returns-2
 returns-2 c = digit-high _ (c .if1 .left)
 

@@ -1,7 +1,8 @@
+-- Each turn writes the low digit of what is left of x in front of those written, until all k stand there.
 use native.Mathlib.Omega.{arith}
+use Rattle.frame.proofs.Writing.{Puts, puts-none, puts-length, puts-more, puts-all}
 use Rattle.frame.proofs.put_hex.Statement.{statement}
 use Rattle.frame.proofs.put_hex.Tie as tie
-use Rattle.frame.proofs.Writing.{Puts, puts-none, puts-length, puts-more, puts-all}
 
 abbrev Inv-loop : tie.InvT-loop
 Inv-loop out₀ at k x j₀ y₀ out j y = Puts out₀ out at k x j y
@@ -9,39 +10,30 @@ Inv-loop out₀ at k x j₀ y₀ out j y = Puts out₀ out at k x j y
 abbrev μ-loop : tie.MeasureT-loop
 μ-loop out₀ at k x j₀ y₀ out j y = j
 
--- src/lib.rt:66:5
 loop-holds : tie.Need-loop-holds Inv-loop μ-loop
 loop-holds c = puts-none _ _ _ _ (c .before .pre)
 
--- src/lib.rt:67:13
 sub-j : tie.Need-sub-j Inv-loop μ-loop
 sub-j c = omega arith
 
--- src/lib.rt:68:23
 hex-digit-requires : tie.Need-hex-digit-requires Inv-loop μ-loop
 hex-digit-requires c κs = omega arith
 
--- src/lib.rt:68:13
 add-out : tie.Need-add-out Inv-loop μ-loop
 add-out c = omega arith
 
--- src/lib.rt:68:9
 slice-write-out : tie.Need-slice-write-out Inv-loop μ-loop
 slice-write-out c = omega (arith, puts-length (c .before .before .loop .inv), c .before .before .before .before .pre)
 
--- src/lib.rt:66:5
 loop-less : tie.Need-loop-less Inv-loop μ-loop
 loop-less c = omega arith
 
--- src/lib.rt:66:5
 loop-again : tie.Need-loop-again Inv-loop μ-loop
 loop-again c = rw (c .hex-digit .ensures) (puts-more _ (c .before .before .loop .inv) (c .before .loop-test .taken))
 
--- src/lib.rt:60:1
 same-length : tie.Need-same-length Inv-loop μ-loop
 same-length c = puts-length (c .before .loop .inv)
 
--- src/lib.rt:60:1
 returns : tie.Need-returns Inv-loop μ-loop
 returns c = puts-all (c .before .loop .inv) (omega arith)
 

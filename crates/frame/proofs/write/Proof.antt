@@ -1,72 +1,72 @@
-use borrow.Author.Needs.{needs}
+-- Six fields are written one behind another and then the newline, which is the frame's line.
 use native.Mathlib.Omega.{arith}
-use Rattle.frame.proofs.write.Statement.{statement}
-use Rattle.frame.proofs.write.Tie as tie
 use lib.ListN.{length-set}
 use Rattle.frame.specs.Fields.{fieldsOf}
-use Rattle.frame.proofs.Writing.{Fields, fields-line}
+use Rattle.frame.proofs.Writing.{Written, written-line}
+use Rattle.frame.proofs.write.Statement.{statement}
+use Rattle.frame.proofs.write.Tie as tie
 
--- src/lib.rt:95:5
 put-hex-requires : tie.Need-put-hex-requires
-put-hex-requires c κs = search needs
+put-hex-requires c κs = omega arith
 
--- src/lib.rt:96:18
 add-put-hex : tie.Need-add-put-hex
-add-put-hex c = search needs
+add-put-hex c = omega arith
 
--- src/lib.rt:96:5
 put-hex-requires-2 : tie.Need-put-hex-requires-2
-put-hex-requires-2 c κs = search needs
+put-hex-requires-2 c κs = omega arith
 
--- src/lib.rt:97:18
 add-put-hex-2 : tie.Need-add-put-hex-2
-add-put-hex-2 c = search needs
+add-put-hex-2 c = omega arith
 
--- src/lib.rt:97:5
 put-hex-requires-3 : tie.Need-put-hex-requires-3
-put-hex-requires-3 c κs = search needs
+put-hex-requires-3 c κs = omega arith
 
--- src/lib.rt:98:18
 add-put-hex-3 : tie.Need-add-put-hex-3
-add-put-hex-3 c = search needs
+add-put-hex-3 c = omega arith
 
--- src/lib.rt:98:5
 put-hex-requires-4 : tie.Need-put-hex-requires-4
-put-hex-requires-4 c κs = search needs
+put-hex-requires-4 c κs = omega arith
 
--- src/lib.rt:99:18
 add-put-hex-4 : tie.Need-add-put-hex-4
-add-put-hex-4 c = search needs
+add-put-hex-4 c = omega arith
 
--- src/lib.rt:99:5
 put-hex-requires-5 : tie.Need-put-hex-requires-5
-put-hex-requires-5 c κs = search needs
+put-hex-requires-5 c κs = omega arith
 
--- src/lib.rt:100:18
 add-put-hex-5 : tie.Need-add-put-hex-5
-add-put-hex-5 c = search needs
+add-put-hex-5 c = omega arith
 
--- src/lib.rt:100:5
 put-hex-requires-6 : tie.Need-put-hex-requires-6
-put-hex-requires-6 c κs = search needs
+put-hex-requires-6 c κs = omega arith
 
--- src/lib.rt:101:9
 add-out : tie.Need-add-out
-add-out c = search needs
+add-out c = omega arith
 
--- src/lib.rt:101:5
 slice-write-out : tie.Need-slice-write-out
-slice-write-out c = search needs
+slice-write-out c = omega arith
 
--- src/lib.rt:91:1
 same-length : tie.Need-same-length
 same-length c = simp length-set (omega arith)
 
--- src/lib.rt:91:1
 returns : tie.Need-returns
 returns c =
-    let w : Fields (c .before .before .before .before .before .before .before .before .before .before .before .before .before .before .before .before .before .before .before .before .before .before .before .before .before .args .out .now) (c .before .before .before .before .before .before .before .before .before .before .before .before .before .before .before .before .before .before .before .before .before .before .before .before .before .args .at) (fieldsOf (c .before .before .before .before .before .before .before .before .before .before .before .before .before .before .before .before .before .before .before .before .before .before .before .before .before .args .f)) _ _ _ _ _ _ = record { inside = c .before .before .before .before .before .before .before .before .before .before .before .before .before .before .before .before .before .before .before .before .before .before .before .before .before .pre; batch = c .before .before .before .before .before .before .before .before .before .before .before .before .before .before .before .before .before .before .before .before .before .before .put-hex .ensures; index = c .before .before .before .before .before .before .before .before .before .before .before .before .before .before .before .before .before .before .put-hex2 .ensures; count = c .before .before .before .before .before .before .before .before .before .before .before .before .before .before .put-hex3 .ensures; kind = c .before .before .before .before .before .before .before .before .before .before .put-hex4 .ensures; key = c .before .before .before .before .before .before .put-hex5 .ensures; value = c .before .before .put-hex6 .ensures } in
-    fields-line w
+    let p6 = c .before .before in
+    let p5 = p6 .before .before .before .before in
+    let p4 = p5 .before .before .before .before in
+    let p3 = p4 .before .before .before .before in
+    let p2 = p3 .before .before .before .before in
+    let p1 = p2 .before .before .before .before in
+    let s = p1 .before .before .before in
+    let w : Written (s .args .out .now) (s .args .at) (fieldsOf (s .args .f)) _ _ _ _ _ _ = record {
+      inside = s .pre;
+      batch = p1 .put-hex .ensures;
+      index = p2 .put-hex2 .ensures;
+      count = p3 .put-hex3 .ensures;
+      kind = p4 .put-hex4 .ensures;
+      key = p5 .put-hex5 .ensures;
+      value = p6 .put-hex6 .ensures;
+    } in
+    written-line w
 
 pub write-spec : {M : Type 1} → statement M
 write-spec =

@@ -1,9 +1,10 @@
+-- After i turns the first i words are zeros.
 use native.Mathlib.Omega.{arith}
-use Rattle.inbox.proofs.clear.Statement.{statement}
-use Rattle.inbox.proofs.clear.Tie as tie
 use Prim.Native.Nat.{_-_}
 use lib.ListN.{length}
 use Rattle.inbox.proofs.Zeros.{Zeros, zeros-none, zeros-more, zeros-all}
+use Rattle.inbox.proofs.clear.Statement.{statement}
+use Rattle.inbox.proofs.clear.Tie as tie
 
 abbrev Inv-loop : tie.InvT-loop
 Inv-loop x₀ i₀ x i = Zeros x₀ x i
@@ -11,35 +12,27 @@ Inv-loop x₀ i₀ x i = Zeros x₀ x i
 abbrev μ-loop : tie.MeasureT-loop
 μ-loop x₀ i₀ x i = length x₀ - i
 
--- src/lib.rt:129:5
 loop-holds : tie.Need-loop-holds Inv-loop μ-loop
 loop-holds c = zeros-none _
 
--- src/lib.rt:130:9
 mul-x : tie.Need-mul-x Inv-loop μ-loop
 mul-x c = omega arith
 
--- src/lib.rt:130:9
 slice-write-x : tie.Need-slice-write-x Inv-loop μ-loop
 slice-write-x c = omega arith
 
--- src/lib.rt:131:9
 add-i : tie.Need-add-i Inv-loop μ-loop
 add-i c = omega arith
 
--- src/lib.rt:129:5
 loop-less : tie.Need-loop-less Inv-loop μ-loop
 loop-less c = omega (arith, c .before .loop .inv .long)
 
--- src/lib.rt:129:5
 loop-again : tie.Need-loop-again Inv-loop μ-loop
 loop-again c = zeros-more (c .before .loop .inv) (c .loop-test .taken)
 
--- src/lib.rt:125:1
 same-length : tie.Need-same-length Inv-loop μ-loop
 same-length c = c .before .loop .inv .long
 
--- src/lib.rt:125:1
 returns : tie.Need-returns Inv-loop μ-loop
 returns c = zeros-all (c .before .loop .inv) (c .loop-test .left)
 

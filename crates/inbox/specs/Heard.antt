@@ -1,4 +1,4 @@
--- Heard words a word at a time.
+-- The heard words, one at a time.
 use mathlib.Core.Path.{_≡_}
 use Prim.Native.Nat.{ℕ, _+_, _*_, _≤_, _<_}
 use mathlib.Core.List.{List}
