@@ -21,7 +21,7 @@ pub enum Parsed {
 }
 
 // What digits say: a number, or none where one of them is no digit.
-pub enum Number {
+enum Number {
     Is(u32),
     None,
 }

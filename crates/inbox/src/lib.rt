@@ -18,12 +18,14 @@ pub struct Reply {
     pub missing: u32,
 }
 
+// In 64 bits, so that a shift by 32 is a shift as any other.
 fn wide(x: u32) -> usize
     ensures { λ r. ⌜ (r ≡ x) × (r < 2 ^ 32) ⌝ }
 {
     x as usize
 }
 
+// Whether the inbox has 130 words.
 pub fn shape(x: &[u32]) -> bool
     ensures { λ r. ⌜ Tells r (length (now (x .entry)) ≡ 130) ⌝ }
 {
@@ -85,6 +87,7 @@ pub fn check(x: &[u32]) -> u32
     0
 }
 
+// Whether the bit of index is 1.
 pub fn heard(x: &[u32], index: u32) -> bool
     requires { ⌜ (length (now x) ≡ 130) × (index < 4096) ⌝ }
     ensures { λ r. ⌜ r ≡ model.heardAt (now (x .entry)) index ⌝ }
@@ -126,6 +129,7 @@ pub fn missing(x: &[u32]) -> u32
     x[1] - heard_in(x)
 }
 
+// Zeros everywhere.
 fn clear(x: &mut [u32])
     ensures { λ _. ⌜ now (x .exit) ≡ replicate (length (now (x .entry))) 0 ⌝ }
 {
