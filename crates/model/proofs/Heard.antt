@@ -60,7 +60,7 @@ begun-words batch h zero = h
 begun-words batch h (suc i) = omega (arith, begun-word batch i)
 
 -- a bit that is 0 can be added
-bit-room : (k j w : ℕ) → j < k → w < 2 ^ k → bit w j ≡ 0 → w + 2 ^ j < 2 ^ k
+pub bit-room : (k j w : ℕ) → j < k → w < 2 ^ k → bit w j ≡ 0 → w + 2 ^ j < 2 ^ k
 bit-room zero j w h f e = absurd (omega arith)
 bit-room (suc k) zero w h f e = omega (arith, pow-suc 2 k, bit-zero w)
 bit-room (suc k) (suc j) w h f e =

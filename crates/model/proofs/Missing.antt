@@ -1,7 +1,7 @@
 -- Missing: the indexes below count that are not heard.
 use mathlib.Core.Path.{_≡_, refl, ap, sym, _∙_}
 use mathlib.Core.Logic.{_↔_}
-use Prim.Native.Nat.{ℕ, zero, suc, _+_, _-_, _*_, _/_, _%_, _^_, _<_}
+use Prim.Native.Nat.{ℕ, zero, suc, _+_, _-_, _*_, _/_, _%_, _^_, _≤_, _<_}
 use mathlib.Core.Bool.{true}
 use mathlib.Core.List.{List}
 use lib.Count.{ones, ones-step, ones-le}
@@ -63,16 +63,24 @@ heardIn-hits x W (suc k) =
         rw (q, r)
 
 module _ (x : List ℕ) (S : SoundInbox x) (W : Words x) where
-  -- missing is the number of indexes below count whose bit is 0
-  pub missing-counts : missing x ≡ hits (heardBit x) 0 (countOf x)
-  unfolding missing
-  missing-counts =
+  -- all that is heard is below count
+  heard-below : heardIn x 128 ≡ hits (heardBit x) 1 (countOf x)
+  heard-below =
       let n = countOf x in
       let all : hits (heardBit x) 1 4096 ≡ hits (heardBit x) 1 n + hits (λ i. heardBit x (n + i)) 1 (4096 - n) =
       ap (hits (heardBit x) 1) (omega (arith, S .small)) ∙ hits-more (heardBit x) 1 n (4096 - n) in
       let above : hits (λ i. heardBit x (n + i)) 1 (4096 - n) ≡ 0 =
       hits-none (λ i. heardBit x (n + i)) 1 (4096 - n) (λ i h. eqb-false (heardBit x (n + i)) 1 (S .clear (n + i) (omega arith) (omega arith))) in
-      omega (arith, heardIn-hits x W 128, all, above, hits-both (heardBit x) n (λ i. omega arith))
+      omega (arith, heardIn-hits x W 128, all, above)
+
+  -- no more is heard than count
+  pub heard-most : heardIn x 128 ≤ countOf x
+  heard-most = omega (arith, heard-below, hits-both (heardBit x) (countOf x) (λ i. omega arith))
+
+  -- missing is the number of indexes below count whose bit is 0
+  pub missing-counts : missing x ≡ hits (heardBit x) 0 (countOf x)
+  unfolding missing
+  missing-counts = omega (arith, heard-below, hits-both (heardBit x) (countOf x) (λ i. omega arith))
 
   -- none is missing exactly when every index below count is heard
   pub missing-zero : (missing x ≡ 0) ↔ ((i : ℕ) → i < countOf x → heardAt x i ≡ true)

@@ -1,0 +1,5 @@
+pub mod Legality
+pub mod Values
+pub mod Reading
+pub mod Writing
+pub mod Parsing

@@ -1,0 +1,6 @@
+pub mod Answers
+pub mod Highs
+pub mod Marks
+pub mod Sums
+pub mod Zeros
+pub mod Answered

@@ -1,0 +1,11 @@
+-- The test is the fact itself.
+use lib.ListN.{length}
+use Rattle.inbox.proofs.Answers.{tells-eqb}
+use Rattle.inbox.proofs.shape.Statement.{statement}
+use Rattle.inbox.proofs.shape.Tie as tie
+
+returns : tie.Need-returns
+returns c = tells-eqb (length (c .args .x .now)) 130 (λ e. e) (λ e. e)
+
+pub shape-spec : {M : Type 1} → statement M
+shape-spec = tie.close (tie.spec returns)
