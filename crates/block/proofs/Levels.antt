@@ -3,7 +3,7 @@ use mathlib.Core.Path.{_≡_, subst, _∙_}
 use Prim.Native.Nat.{ℕ, zero, suc, _+_, _≤_, _<_}
 use mathlib.Core.List.{List}
 use native.Mathlib.Omega.{arith}
-use Rattle.model.specs.Tree.{Tree, node}
+use Rattle.model.specs.Tree.{Tree, node, size}
 use Rattle.model.specs.Supply.{Make, make, _>>=_}
 use Rattle.model.specs.Heap.{Heap, Occupied, Named, sizeAt, tree, supply}
 use Rattle.model.specs.Block.{heap, room, Shaped}
@@ -71,3 +71,7 @@ module _ {b c : List ℕ} {x : ℕ} {m : Make Tree} (R : Running b) (O : Outcome
 -- a rule, then one of what it made and of a link that stood: for a link on the left, mk takes its trees the other way round
 pub out-then : {b c e : List ℕ} {x : ℕ} {q : Made} {m : Make Tree} (mk : Tree → Tree → Make Tree) (y : ℕ) → Named (heap b) y → Outcome b c (At x) m → Outcome c e q (mk (tree (heap c) x) (tree (heap c) y)) → Outcome b e q (m >>= λ t. mk t (tree (heap b) y))
 out-then {b} {c} {e} {x} {q} {m} mk y o O P = out-bind b c e x q m (λ t. mk t (tree (heap b) y)) O (subst (λ t. Outcome c e q (mk (tree (heap c) x) t)) (O .came .grown .trees y o) P)
+
+-- a rule that adds at most one to the tree below y has made x
+pub out-most : {b c : List ℕ} {x : ℕ} {m : Make Tree} (y : ℕ) → Running b → Named (heap b) y → Outcome b c (At x) m → size (m (supply (heap b)) .0) ≤ suc (size (tree (heap b) y)) → sizeAt (heap c) x ≤ suc (sizeAt (heap b) y)
+out-most {b} {c} {x} {m} y R o O p = omega (arith, out-size b c x m O, tree-size (heap b) (R .linked) y o)

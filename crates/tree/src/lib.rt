@@ -1,15 +1,18 @@
 // The tree rules: the balanced make, insert, remove and lookup.
+use block::Found;
 use block::Made;
 use block::make;
 use block::read;
 use block::size_at;
 ghost use mathlib.Core.Path.{_≡_};
 ghost use Prim.Native.Nat.{ℕ, _+_, _<_};
-ghost use Rattle.model.specs.Heap.{Named, Occupied, sizeAt, tree};
-ghost use Rattle.model.specs.Block.{heap};
+ghost use Rattle.model.specs.Tree.{lookup};
+ghost use Rattle.model.specs.Heap.{Named, Occupied, Linked, sizeAt, tree};
+ghost use Rattle.model.specs.Block.{heap, Shaped};
 ghost use Rattle.model.specs.Moves.{Running};
-ghost use Rattle.model.specs.Rules.{twice, rotateLeft, rotateRight, balanced};
-ghost use Rattle.block.specs.Outcome.{Outcome};
+ghost use Rattle.model.specs.Rules.{twice, rotateLeft, rotateRight, balanced, insertBy};
+ghost use Rattle.block.specs.Outcome.{Outcome, answer};
+ghost use Rattle.tree.specs.Remade.{remade};
 
 // Rotates twice: the middle node goes to the top.
 fn twice(
@@ -88,4 +91,59 @@ pub fn balanced(b: &mut [u32], key: u32, value: u32, left: u32, right: u32) -> M
         return rotate_right(b, key, value, left, right);
     }
     make(b, key, value, left, right)
+}
+
+// A node of insert's path: a new key uses balanced makes, an equal key plain ones.
+fn remake(b: &mut [u32], fresh: bool, key: u32, value: u32, left: u32, right: u32) -> Made
+    requires { ⌜ Running (now b) × Named (heap (now b)) left × Named (heap (now b)) right × (sizeAt (heap (now b)) left + sizeAt (heap (now b)) right < 1048576) ⌝ }
+    ensures { λ r. ⌜ Outcome (now (b .entry)) (now (b .exit)) r (remade fresh key value (tree (heap (now (b .entry))) left) (tree (heap (now (b .entry))) right)) ⌝ }
+{
+    if fresh {
+        return balanced(b, key, value, left, right);
+    }
+    make(b, key, value, left, right)
+}
+
+// Insert below n, which remakes every node on the path, deepest first; `fresh` says that the key is new.
+pub fn insert(b: &mut [u32], fresh: bool, n: u32, key: u32, value: u32) -> Made
+    requires { ⌜ Running (now b) × Named (heap (now b)) n × (sizeAt (heap (now b)) n < 1048575) ⌝ }
+    ensures { λ r. ⌜ Outcome (now (b .entry)) (now (b .exit)) r (insertBy (remade fresh) (tree (heap (now (b .entry))) n) key value) ⌝ }
+{
+    if n == 0 {
+        return make(b, key, value, 0, 0);
+    }
+    let node = read(b, n);
+    if key == node.key {
+        return remake(b, fresh, key, value, node.left, node.right);
+    }
+    if key < node.key {
+        let Made::At(left) = insert(b, fresh, node.left, key, value) else {
+            return Made::Full;
+        };
+        return remake(b, fresh, node.key, node.value, left, node.right);
+    }
+    let Made::At(right) = insert(b, fresh, node.right, key, value) else {
+        return Made::Full;
+    };
+    remake(b, fresh, node.key, node.value, node.left, right)
+}
+
+// The value under a key in the tree below `root`.
+pub fn find(b: &[u32], root: u32, key: u32) -> Found
+    requires { ⌜ Shaped (now b) × Linked (heap (now b)) × Named (heap (now b)) root ⌝ }
+    ensures { λ r. ⌜ answer r ≡ lookup (tree (heap (now (b .entry))) root) key ⌝ }
+{
+    let mut n = root;
+    while n != 0 {
+        let node = read(b, n);
+        if key == node.key {
+            return Found::Value(node.value);
+        }
+        if key < node.key {
+            n = node.left;
+        } else {
+            n = node.right;
+        }
+    }
+    Found::Absent
 }
