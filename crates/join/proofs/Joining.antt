@@ -1,5 +1,5 @@
 -- Join is right because each level follows the rule by the same sizes: it joins below, then makes the node above, and stops where that finds no room.
-use mathlib.Core.Path.{_≡_, refl, ap, sym, _∙_}
+use mathlib.Core.Path.{_≡_, refl, ap}
 use Prim.Native.Nat.{ℕ, _+_, _*_, _≤_, _<_}
 use mathlib.Core.List.{List}
 use borrow.Author.Tests.{lt-ltb, le-ltb}
@@ -7,7 +7,7 @@ use native.Mathlib.Omega.{arith}
 use Rattle.model.specs.Tree.{Tree, leaf, node, size}
 use Rattle.model.specs.Supply.{Supply, Make, apart, _>>=_, _>>_}
 use Rattle.model.specs.Rules.{balanced, join}
-use Rattle.model.specs.Heap.{Occupied, Named, sizeAt, tree, supply}
+use Rattle.model.specs.Heap.{Named, sizeAt, tree, supply}
 use Rattle.model.specs.Block.{heap}
 use Rattle.model.specs.Moves.{Running}
 use Rattle.model.proofs.Loads.{tree-size}
@@ -19,7 +19,6 @@ use Rattle.block.specs.declared.Node.{Node}
 use Rattle.block.specs.Outcome.{Outcome, nodeOf}
 use Rattle.block.proofs.Outcomes.{out-stop, out-apart, out-size}
 use Rattle.block.proofs.Levels.{Asks, Level, read-tree, read-left, read-right, read-size, sized-occupied, then-left, then-right, out-then}
-use Rattle.tree.proofs.Turns.{Sides}
 
 -- a rule that takes node i apart, does low, and makes above it the top of what came and of c, which stays
 pub record Spine (b : List ℕ) (goal low : Make Tree) (top : Tree → Tree → Make Tree) (i c : ℕ) : Type 0 where
@@ -68,64 +67,57 @@ module _ (k v : ℕ) where
   neither (node i h w ll lr) leaf p q = absurd (omega arith)
   neither (node i h w ll lr) (node j g u rl rr) p q = rw (le-ltb (3 * size (node i h w ll lr)) (size (node j g u rl rr)) p, join) (rw (le-ltb (3 * size (node j g u rl rr)) (size (node i h w ll lr)) q))
 
--- the sides l and r have the sizes x and y
-module _ {b : List ℕ} {l r x y : ℕ} (S : Sides b l r x y) where
-  abbrev L : Tree
-  L = tree (heap b) l
+-- the larger side m is over 3 times the other, o, and has been read: it is n
+pub record Larger (b : List ℕ) (m o : ℕ) (n : Node) : Type 0 where
+  pub running : Running b
+  pub larger : Named (heap b) m
+  pub other : Named (heap b) o
+  pub small : sizeAt (heap b) m + sizeAt (heap b) o < 1048576
+  pub over : 3 * sizeAt (heap b) o < sizeAt (heap b) m
+  pub is : n ≡ nodeOf (heap b) m
 
-  abbrev R : Tree
-  R = tree (heap b) r
+module _ {b : List ℕ} {m o : ℕ} {n : Node} (D : Larger b m o n) where
+  at : Level b m n
+  at = record { running = D .running; occupied = sized-occupied (heap b) m (D .larger) (omega (arith, D .over)); is = D .is }
 
-  of-size : (n : ℕ) → Named (heap b) n → size (tree (heap b) n) ≡ sizeAt (heap b) n
-  of-size n o = tree-size (heap b) (S .asks .0 .linked) n o
+  sized : (x : ℕ) → Named (heap b) x → size (tree (heap b) x) ≡ sizeAt (heap b) x
+  sized x p = tree-size (heap b) (D .running .linked) x p
 
-  left-is : size L ≡ x
-  left-is = of-size l (S .asks .1) ∙ sym (S .left)
+  over-trees : 3 * size (tree (heap b) o) < size (node m (n .key) (n .value) (tree (heap b) (n .left)) (tree (heap b) (n .right)))
+  over-trees = omega (arith, D .over, sized o (D .other), sized m (D .larger), ap size (read-tree at))
 
-  right-is : size R ≡ y
-  right-is = of-size r (S .asks .2) ∙ sym (S .right)
+-- down the right's left spine
+module _ {b : List ℕ} {l r : ℕ} {n : Node} (D : Larger b r l n) where
+  pub right-asks : {t : ℕ} → sizeAt (heap b) l + sizeAt (heap b) r ≡ t → (sizeAt (heap b) l + sizeAt (heap b) (n .left) < t) × Asks b l (n .left)
+  right-asks e = let z = read-size (at D) in (omega (arith, z), (D .running, D .other, read-left (at D), omega (arith, z, D .small)))
 
-  pub even : (k v : ℕ) {e : List ℕ} {q : Made} → y ≤ 3 * x → x ≤ 3 * y → Outcome b e q (balanced k v L R) → Outcome b e q (join k v L R)
-  even k v p q O = rw (neither k v L R (omega (arith, left-is, right-is)) (omega (arith, left-is, right-is))) O
+  pub right-spine : (k v : ℕ) → Spine b (join k v (tree (heap b) l) (tree (heap b) r)) (join k v (tree (heap b) l) (tree (heap b) (n .left))) (λ t u. balanced (n .key) (n .value) t u) r (n .right)
+  right-spine k v = let x = tree (heap b) (n .left) in let y = tree (heap b) (n .right) in record {
+    running = D .running;
+    stays = read-right (at D);
+    small = λ s. omega (arith, join-size k v (tree (heap b) l) x s, sized D l (D .other), sized D (n .left) (read-left (at D)), read-size (at D), D .small);
+    onward = λ t. onward (balanced (n .key) (n .value) t y) (balanced-steady (n .key) (n .value) t y);
+    is = rw (read-tree (at D)) (right-larger k v (tree (heap b) l) r (n .key) (n .value) x y (over-trees D));
+  }
 
-  -- down the right's left spine
-  module _ (lt : 3 * x < y) where
-    pub right-node : Occupied (heap b) r
-    right-node = sized-occupied (heap b) r (S .asks .2) (omega (arith, S .right))
+-- down the left's right spine
+module _ {b : List ℕ} {l r : ℕ} {n : Node} (D : Larger b l r n) where
+  pub left-asks : {t : ℕ} → sizeAt (heap b) l + sizeAt (heap b) r ≡ t → (sizeAt (heap b) (n .right) + sizeAt (heap b) r < t) × Asks b (n .right) r
+  left-asks e = let z = read-size (at D) in (omega (arith, z), (D .running, read-right (at D), D .other, omega (arith, z, D .small)))
 
-    module _ {n : Node} (is : n ≡ nodeOf (heap b) r) where
-      abbrev at-right : Level b r n
-      at-right = record { running = S .asks .0; occupied = right-node; is = is }
+  pub left-spine : (k v : ℕ) → Spine b (join k v (tree (heap b) l) (tree (heap b) r)) (join k v (tree (heap b) (n .right)) (tree (heap b) r)) (λ t u. balanced (n .key) (n .value) u t) l (n .left)
+  left-spine k v = let x = tree (heap b) (n .left) in let y = tree (heap b) (n .right) in record {
+    running = D .running;
+    stays = read-left (at D);
+    small = λ s. omega (arith, join-size k v y (tree (heap b) r) s, sized D r (D .other), sized D (n .right) (read-right (at D)), read-size (at D), D .small);
+    onward = λ t. onward (balanced (n .key) (n .value) x t) (balanced-steady (n .key) (n .value) x t);
+    is = rw (read-tree (at D)) (left-larger k v l (n .key) (n .value) x y (tree (heap b) r) (over-trees D));
+  }
 
-      pub right-asks : {t : ℕ} → sizeAt (heap b) l + sizeAt (heap b) r ≡ t → (sizeAt (heap b) l + sizeAt (heap b) (n .left) < t) × Asks b l (n .left)
-      right-asks e = let z = read-size at-right in (omega (arith, z), (S .asks .0, S .asks .1, read-left at-right, omega (arith, z, S .asks .3)))
-
-      pub right-spine : (k v : ℕ) → Spine b (join k v L R) (join k v L (tree (heap b) (n .left))) (λ t u. balanced (n .key) (n .value) t u) r (n .right)
-      right-spine k v = record {
-        running = S .asks .0;
-        stays = read-right at-right;
-        small = λ s. omega (arith, join-size k v L (tree (heap b) (n .left)) s, of-size l (S .asks .1), of-size (n .left) (read-left at-right), read-size at-right, S .asks .3);
-        onward = λ t. onward (balanced (n .key) (n .value) t (tree (heap b) (n .right))) (balanced-steady (n .key) (n .value) t (tree (heap b) (n .right)));
-        is = rw (read-tree at-right) (right-larger k v L r (n .key) (n .value) (tree (heap b) (n .left)) (tree (heap b) (n .right)) (omega (arith, left-is, right-is, ap size (read-tree at-right))));
-      }
-
-  -- down the left's right spine
-  module _ (lt : 3 * y < x) where
-    pub left-node : Occupied (heap b) l
-    left-node = sized-occupied (heap b) l (S .asks .1) (omega (arith, S .left))
-
-    module _ {n : Node} (is : n ≡ nodeOf (heap b) l) where
-      abbrev at-left : Level b l n
-      at-left = record { running = S .asks .0; occupied = left-node; is = is }
-
-      pub left-asks : {t : ℕ} → sizeAt (heap b) l + sizeAt (heap b) r ≡ t → (sizeAt (heap b) (n .right) + sizeAt (heap b) r < t) × Asks b (n .right) r
-      left-asks e = let z = read-size at-left in (omega (arith, z), (S .asks .0, read-right at-left, S .asks .2, omega (arith, z, S .asks .3)))
-
-      pub left-spine : (k v : ℕ) → Spine b (join k v L R) (join k v (tree (heap b) (n .right)) R) (λ t u. balanced (n .key) (n .value) u t) l (n .left)
-      left-spine k v = record {
-        running = S .asks .0;
-        stays = read-left at-left;
-        small = λ s. omega (arith, join-size k v (tree (heap b) (n .right)) R s, of-size r (S .asks .2), of-size (n .right) (read-right at-left), read-size at-left, S .asks .3);
-        onward = λ t. onward (balanced (n .key) (n .value) (tree (heap b) (n .left)) t) (balanced-steady (n .key) (n .value) (tree (heap b) (n .left)) t);
-        is = rw (read-tree at-left) (left-larger k v l (n .key) (n .value) (tree (heap b) (n .left)) (tree (heap b) (n .right)) R (omega (arith, left-is, right-is, ap size (read-tree at-left))));
-      }
+-- neither side is over 3 times the other
+pub even : {b e : List ℕ} {q : Made} (k v l r : ℕ) → Asks b l r → sizeAt (heap b) r ≤ 3 * sizeAt (heap b) l → sizeAt (heap b) l ≤ 3 * sizeAt (heap b) r
+    → Outcome b e q (balanced k v (tree (heap b) l) (tree (heap b) r)) → Outcome b e q (join k v (tree (heap b) l) (tree (heap b) r))
+even {b} k v l r A p q O =
+    let x = tree-size (heap b) (A .0 .linked) l (A .1) in
+    let y = tree-size (heap b) (A .0 .linked) r (A .2) in
+    rw (neither k v (tree (heap b) l) (tree (heap b) r) (omega (arith, x, y)) (omega (arith, x, y))) O
