@@ -54,46 +54,52 @@ unfolding split tree load
 split-none b n k e R = rw e (record { left = tt; right = tt; came = came-done b (record { left = leaf; found = none; right = leaf }) R })
 
 -- a rule that takes node i apart, splits below by low, and puts in place what top makes of the near part and of c, which stays
-pub record Path (b : List ℕ) (goal low : Make Parts) (near : Parts → Tree) (top : Tree → Tree → Make Tree) (place : Parts → Tree → Parts) (i c : ℕ) : Type 0 where
+pub record Parting (b : List ℕ) (goal low : Make Parts) (near : Parts → Tree) (top : Tree → Tree → Make Tree) (place : Parts → Tree → Parts) (i c : ℕ) : Type 0 where
   pub running : Running b
   pub stays : Named (heap b) c
   pub small : (s : Supply) → size (near (low s .0)) + sizeAt (heap b) c < 1048576
   pub onward : (t : Tree) → Onward (top t (tree (heap b) c))
   pub is : goal ≡ (apart i >> (low >>= λ p. top (near p) (tree (heap b) c) >>= λ t. done (place p t)))
 
-module _ {b : List ℕ} {goal low : Make Parts} {near : Parts → Tree} {top : Tree → Tree → Make Tree} {place : Parts → Tree → Parts} {i c : ℕ} (W : Path b goal low near top place i c) where
+module _ {b : List ℕ} {goal low : Make Parts} {near : Parts → Tree} {top : Tree → Tree → Make Tree} {place : Parts → Tree → Parts} {i c : ℕ} (P : Parting b goal low near top place i c) where
   abbrev above : Parts → Make Parts
   above p = top (near p) (tree (heap b) c) >>= λ t. done (place p t)
 
   as-goal : {e : List ℕ} {x : Option Parts} → Came Parts b e x (low >>= above) → Came Parts b e x goal
-  as-goal {e} {x} C = rw (W .is) (came-apart b e i x (low >>= above) C)
+  as-goal {e} {x} C = rw (P .is) (came-apart b e i x (low >>= above) C)
 
-  pub path-stop : {e : List ℕ} → Division b e parted.Full low → Division b e parted.Full goal
-  path-stop {e} D = record { left = tt; right = tt; came = as-goal (came-stop b e low above (D .came) (λ p. W .onward (near p))) }
+  pub parting-stop : {e : List ℕ} → Division b e parted.Full low → Division b e parted.Full goal
+  parting-stop {e} D = record { left = tt; right = tt; came = as-goal (came-stop b e low above (D .came) (λ p. P .onward (near p))) }
 
   module _ {e : List ℕ} {p : Pieces} (D : Division b e (parted.Into p) low) where
-    abbrev made : Make Tree
-    made = top (near (partsOf (heap e) p)) (tree (heap e) c)
+    abbrev got : Parts
+    got = partsOf (heap e) p
 
-    pub path-left : (a : ℕ) → near (partsOf (heap e) p) ≡ tree (heap e) a → Named (heap e) a → Asks e a c
-    path-left a is o =
-        let still = grown-size (heap b) (heap e) c (W .running .linked) (D .came .running .linked) (D .came .grown) (W .stays) in
+    pub parting-left : (a : ℕ) → near got ≡ tree (heap e) a → Named (heap e) a → Asks e a c
+    parting-left a is o =
+        let still = grown-size (heap b) (heap e) c (P .running .linked) (D .came .running .linked) (D .came .grown) (P .stays) in
         let same = ap (λ (x : Parts). size (near x)) (parts-are D) in
-        (D .came .running, o, D .came .grown .kept c (W .stays), omega (arith, still, same, ap size is, tree-size (heap e) (D .came .running .linked) a o, W .small (supply (heap b))))
+        (D .came .running, o, D .came .grown .kept c (P .stays), omega (arith, still, same, ap size is, tree-size (heap e) (D .came .running .linked) a o, P .small (supply (heap b))))
 
-    pub path-right : (a : ℕ) → near (partsOf (heap e) p) ≡ tree (heap e) a → Named (heap e) a → Asks e c a
-    path-right a is o = let q = path-left a is o in (q .0, q .2, q .1, omega (arith, q .3))
+    pub parting-right : (a : ℕ) → near got ≡ tree (heap e) a → Named (heap e) a → Asks e c a
+    parting-right a is o = let q = parting-left a is o in (q .0, q .2, q .1, omega (arith, q .3))
 
-    as-stayed : {f : List ℕ} {x : Option Tree} → Came Tree e f x made → Came Tree e f x (top (near (partsOf (heap e) p)) (tree (heap b) c))
-    as-stayed {f} {x} C = subst (λ u. Came Tree e f x (top (near (partsOf (heap e) p)) u)) (D .came .grown .trees c (W .stays)) C
+    abbrev made : Make Tree
+    made = top (near got) (tree (heap b) c)
 
-    pub path-stop-2 : {f : List ℕ} → Outcome e f Full made → Division b f parted.Full goal
-    path-stop-2 {f} J = record { left = tt; right = tt; came = as-goal (came-bind b e f (partsOf (heap e) p) none low above (D .came) (came-stop e f (top (near (partsOf (heap e) p)) (tree (heap b) c)) (λ t. done (place (partsOf (heap e) p) t)) (as-stayed (J .came)) (λ t s q. q))) }
+    as-made : {f : List ℕ} {x : Option Tree} → Came Tree e f x (top (near got) (tree (heap e) c)) → Came Tree e f x made
+    as-made {f} {x} C = subst (λ u. Came Tree e f x (top (near got) u)) (D .came .grown .trees c (P .stays)) C
 
-    pub path-done : {f : List ℕ} {t : ℕ} → Outcome e f (At t) made → Came Parts b f (some (place (partsOf (heap e) p) (tree (heap f) t))) goal
-    path-done {f} {t} J =
-        let x : Parts = place (partsOf (heap e) p) (tree (heap f) t) in
-        as-goal (came-bind b e f (partsOf (heap e) p) (some x) low above (D .came) (came-bind e f f (tree (heap f) t) (some x) (top (near (partsOf (heap e) p)) (tree (heap b) c)) (λ u. done (place (partsOf (heap e) p) u)) (as-stayed (J .came)) (came-done f x (J .came .running))))
+    after : {f : List ℕ} {x : Option Parts} → Came Parts e f x (made >>= λ t. done (place got t)) → Came Parts b f x goal
+    after {f} {x} C = as-goal (came-bind b e f got x low above (D .came) C)
+
+    pub parting-stop-2 : {f : List ℕ} → Outcome e f Full (top (near got) (tree (heap e) c)) → Division b f parted.Full goal
+    parting-stop-2 {f} J = record { left = tt; right = tt; came = after (came-stop e f made (λ t. done (place got t)) (as-made (J .came)) (λ t s q. q)) }
+
+    pub parting-done : {f : List ℕ} {t : ℕ} → Outcome e f (At t) (top (near got) (tree (heap e) c)) → Came Parts b f (some (place got (tree (heap f) t))) goal
+    parting-done {f} {t} J =
+        let x : Parts = place got (tree (heap f) t) in
+        after (came-bind e f f (tree (heap f) t) (some x) made (λ u. done (place got u)) (as-made (J .came)) (came-done f x (J .came .running)))
 
 -- node n has been read: it is m, and the tree below it is small
 pub record Opened (b : List ℕ) (n : ℕ) (m : Node) : Type 0 where
@@ -131,9 +137,9 @@ module _ {b : List ℕ} {n : ℕ} {m : Node} (N : Opened b n m) where
         record { left = read-left R; right = read-right R; came = rw (read-tree R, split) (rw (eq-cmp k (m .key) same) (came-apart b b n (some x) (done x) (came-done b x (R .running)))) }
 
     -- the key is on the left: what is right of it is joined to the rest
-    pub left-path : k < m .key → Path b (split (tree (heap b) n) k) (split L k) (λ p. p .right) (λ t u. join (m .key) (m .value) t u) (λ p t. record { left = p .left; found = p .found; right = t }) n (m .right)
+    pub left-parting : k < m .key → Parting b (split (tree (heap b) n) k) (split L k) (λ p. p .right) (λ t u. join (m .key) (m .value) t u) (λ p t. record { left = p .left; found = p .found; right = t }) n (m .right)
     unfolding split
-    left-path lt = record {
+    left-parting lt = record {
       running = R .running;
       stays = read-right R;
       small = λ s. omega (arith, split-size L k s, left-is, N .small, read-size R);
@@ -142,9 +148,9 @@ module _ {b : List ℕ} {n : ℕ} {m : Node} (N : Opened b n m) where
     }
 
     -- the key is on the right: what is left of it is joined to the rest
-    pub right-path : k ≢ m .key → m .key ≤ k → Path b (split (tree (heap b) n) k) (split T k) (λ p. p .left) (λ t u. join (m .key) (m .value) u t) (λ p t. record { left = t; found = p .found; right = p .right }) n (m .left)
+    pub right-parting : k ≢ m .key → m .key ≤ k → Parting b (split (tree (heap b) n) k) (split T k) (λ p. p .left) (λ t u. join (m .key) (m .value) u t) (λ p t. record { left = t; found = p .found; right = p .right }) n (m .left)
     unfolding split
-    right-path ne le = record {
+    right-parting ne le = record {
       running = R .running;
       stays = read-left R;
       small = λ s. omega (arith, split-size T k s, right-is, N .small, read-size R);
@@ -154,7 +160,7 @@ module _ {b : List ℕ} {n : ℕ} {m : Node} (N : Opened b n m) where
 
     module _ {e f : List ℕ} {p : Pieces} {t : ℕ} where
       pub left-done : k < m .key → Division b e (parted.Into p) (split L k) → Outcome e f (At t) (join (m .key) (m .value) (tree (heap e) (p .right)) (tree (heap e) (m .right))) → Division b f (into (p .left) (p .found) t) (split (tree (heap b) n) k)
-      left-done lt D J = record { left = J .came .grown .kept (p .left) (D .left); right = J .named; came = rw (J .came .grown .trees (p .left) (D .left)) (path-done (left-path lt) D J) }
+      left-done lt D J = record { left = J .came .grown .kept (p .left) (D .left); right = J .named; came = rw (J .came .grown .trees (p .left) (D .left)) (parting-done (left-parting lt) D J) }
 
       pub right-done : k ≢ m .key → m .key ≤ k → Division b e (parted.Into p) (split T k) → Outcome e f (At t) (join (m .key) (m .value) (tree (heap e) (m .left)) (tree (heap e) (p .left))) → Division b f (into t (p .found) (p .right)) (split (tree (heap b) n) k)
-      right-done ne le D J = record { left = J .named; right = J .came .grown .kept (p .right) (D .right); came = rw (J .came .grown .trees (p .right) (D .right)) (path-done (right-path ne le) D J) }
+      right-done ne le D J = record { left = J .named; right = J .came .grown .kept (p .right) (D .right); came = rw (J .came .grown .trees (p .right) (D .right)) (parting-done (right-parting ne le) D J) }

@@ -19,7 +19,7 @@ use Rattle.model.specs.Heap.{sizeAt}
 use Rattle.model.proofs.Lookups.{link-occupied}
 use Rattle.block.proofs.Outcomes.{told}
 use Rattle.block.proofs.Levels.{read-asks}
-use Rattle.join.proofs.Splitting.{told-parts, split-none, Opened, here, left-asks, left-path, left-done, right-asks, right-path, right-done, path-stop, path-left, path-right, path-stop-2}
+use Rattle.join.proofs.Splitting.{told-parts, split-none, Opened, here, left-asks, left-parting, left-done, right-asks, right-parting, right-done, parting-stop, parting-left, parting-right, parting-stop-2}
 
 abbrev μ-split : Measures 1 split-kinds.ps ℕ
 μ-split κs a = sizeAt (heap (a .0 .now)) (a .1 .0)
@@ -81,11 +81,11 @@ split-same-length-2 t c = search needs
 
 -- src/lib.rt:77:13
 split-returns-3 : (t : ℕ) → split-lts.Need-returns-3 (calls t) (split-at t) split.Post
-split-returns-3 t c = path-stop (left-path (opened t (c .before .before .before .before .before .before .before .before .before .before)) _ (c .before .before .before .before .before .before .if3 .taken)) (told-parts _ _ (c .enum-told .given .1) (c .before .before .before .before .split .ensures))
+split-returns-3 t c = parting-stop (left-parting (opened t (c .before .before .before .before .before .before .before .before .before .before)) _ (c .before .before .before .before .before .before .if3 .taken)) (told-parts _ _ (c .enum-told .given .1) (c .before .before .before .before .split .ensures))
 
 -- src/lib.rt:79:38
 split-join-requires : (t : ℕ) → split-lts.Need-join-requires (calls t) (split-at t) split.Post
-split-join-requires t c κs = let D = (told-parts _ _ (c .before .before .p .given .1) (c .before .before .before .before .before .before .split .ensures)) in path-left (left-path (opened t (c .before .before .before .before .before .before .before .before .before .before .before .before)) _ (c .before .before .before .before .before .before .before .before .if3 .taken)) D _ refl (D .right)
+split-join-requires t c κs = let D = (told-parts _ _ (c .before .before .p .given .1) (c .before .before .before .before .before .before .split .ensures)) in parting-left (left-parting (opened t (c .before .before .before .before .before .before .before .before .before .before .before .before)) _ (c .before .before .before .before .before .before .before .before .if3 .taken)) D _ refl (D .right)
 
 -- src/lib.rt:79:22
 split-enum-known-joined-right : (t : ℕ) → split-lts.Need-enum-known-joined-right (calls t) (split-at t) split.Post
@@ -101,7 +101,7 @@ split-same-length-3 t c = search needs
 
 -- src/lib.rt:80:13
 split-returns-4 : (t : ℕ) → split-lts.Need-returns-4 (calls t) (split-at t) split.Post
-split-returns-4 t c = path-stop-2 (left-path (opened t (c .before .before .before .before .before .before .before .before .before .before .before .before .before .before .before .before .before)) _ (c .before .before .before .before .before .before .before .before .before .before .before .before .before .if3 .taken)) (told-parts _ _ (c .before .before .before .before .before .before .before .p .given .1) (c .before .before .before .before .before .before .before .before .before .before .before .split .ensures)) (told _ _ (c .enum-told2 .given .1) (c .before .before .before .before .join .ensures))
+split-returns-4 t c = parting-stop-2 (left-parting (opened t (c .before .before .before .before .before .before .before .before .before .before .before .before .before .before .before .before .before)) _ (c .before .before .before .before .before .before .before .before .before .before .before .before .before .if3 .taken)) (told-parts _ _ (c .before .before .before .before .before .before .before .p .given .1) (c .before .before .before .before .before .before .before .before .before .before .before .split .ensures)) (told _ _ (c .enum-told2 .given .1) (c .before .before .before .before .join .ensures))
 
 -- src/lib.rt:83:9
 split-into-pieces-requires-3 : (t : ℕ) → split-lts.Need-into-pieces-requires-3 (calls t) (split-at t) split.Post
@@ -133,11 +133,11 @@ split-same-length-5 t c = search needs
 
 -- src/lib.rt:86:9
 split-returns-6 : (t : ℕ) → split-lts.Need-returns-6 (calls t) (split-at t) split.Post
-split-returns-6 t c = path-stop (right-path (opened t (c .before .before .before .before .before .before .before .before .before .before)) _ (c .before .before .before .before .before .before .before .before .if2 .left) (c .before .before .before .before .before .before .if3 .left)) (told-parts _ _ (c .enum-told3 .given .1) (c .before .before .before .before .split2 .ensures))
+split-returns-6 t c = parting-stop (right-parting (opened t (c .before .before .before .before .before .before .before .before .before .before)) _ (c .before .before .before .before .before .before .before .before .if2 .left) (c .before .before .before .before .before .before .if3 .left)) (told-parts _ _ (c .enum-told3 .given .1) (c .before .before .before .before .split2 .ensures))
 
 -- src/lib.rt:88:33
 split-join-requires-2 : (t : ℕ) → split-lts.Need-join-requires-2 (calls t) (split-at t) split.Post
-split-join-requires-2 t c κs = let D = (told-parts _ _ (c .before .before .p2 .given .1) (c .before .before .before .before .before .before .split2 .ensures)) in path-right (right-path (opened t (c .before .before .before .before .before .before .before .before .before .before .before .before)) _ (c .before .before .before .before .before .before .before .before .before .before .if2 .left) (c .before .before .before .before .before .before .before .before .if3 .left)) D _ refl (D .left)
+split-join-requires-2 t c κs = let D = (told-parts _ _ (c .before .before .p2 .given .1) (c .before .before .before .before .before .before .split2 .ensures)) in parting-right (right-parting (opened t (c .before .before .before .before .before .before .before .before .before .before .before .before)) _ (c .before .before .before .before .before .before .before .before .before .before .if2 .left) (c .before .before .before .before .before .before .before .before .if3 .left)) D _ refl (D .left)
 
 -- src/lib.rt:88:18
 split-enum-known-joined-left : (t : ℕ) → split-lts.Need-enum-known-joined-left (calls t) (split-at t) split.Post
@@ -153,7 +153,7 @@ split-same-length-6 t c = search needs
 
 -- src/lib.rt:89:9
 split-returns-7 : (t : ℕ) → split-lts.Need-returns-7 (calls t) (split-at t) split.Post
-split-returns-7 t c = path-stop-2 (right-path (opened t (c .before .before .before .before .before .before .before .before .before .before .before .before .before .before .before .before .before)) _ (c .before .before .before .before .before .before .before .before .before .before .before .before .before .before .before .if2 .left) (c .before .before .before .before .before .before .before .before .before .before .before .before .before .if3 .left)) (told-parts _ _ (c .before .before .before .before .before .before .before .p2 .given .1) (c .before .before .before .before .before .before .before .before .before .before .before .split2 .ensures)) (told _ _ (c .enum-told4 .given .1) (c .before .before .before .before .join2 .ensures))
+split-returns-7 t c = parting-stop-2 (right-parting (opened t (c .before .before .before .before .before .before .before .before .before .before .before .before .before .before .before .before .before)) _ (c .before .before .before .before .before .before .before .before .before .before .before .before .before .before .before .if2 .left) (c .before .before .before .before .before .before .before .before .before .before .before .before .before .if3 .left)) (told-parts _ _ (c .before .before .before .before .before .before .before .p2 .given .1) (c .before .before .before .before .before .before .before .before .before .before .before .split2 .ensures)) (told _ _ (c .enum-told4 .given .1) (c .before .before .before .before .join2 .ensures))
 
 -- src/lib.rt:92:5
 split-into-pieces-requires-4 : (t : ℕ) → split-lts.Need-into-pieces-requires-4 (calls t) (split-at t) split.Post
