@@ -3,13 +3,15 @@ use block::Found;
 use block::Made;
 use block::read;
 use block::size_at;
+use tree::Lost;
 use tree::balanced;
+use tree::remove_min;
 ghost use mathlib.Core.Path.{_≡_};
 ghost use Prim.Native.Nat.{ℕ, _+_, _<_};
 ghost use Rattle.model.specs.Heap.{Named, sizeAt, tree};
 ghost use Rattle.model.specs.Block.{heap};
 ghost use Rattle.model.specs.Moves.{Running};
-ghost use Rattle.model.specs.Rules.{join, split};
+ghost use Rattle.model.specs.Rules.{join, split, withoutKey};
 ghost use Rattle.block.specs.Outcome.{Outcome};
 ghost use Rattle.join.specs.Division.{Division, into};
 
@@ -90,4 +92,21 @@ pub fn split(b: &mut [u32], n: u32, key: u32) -> Parted
     };
     let found = p.found;
     into_pieces(joined_left, found, p.right)
+}
+
+// A sole remaining side is returned as is; of two, the minimum of the right takes the key's place.
+pub fn without_key(b: &mut [u32], left: u32, right: u32) -> Made
+    requires { ⌜ Running (now b) × Named (heap (now b)) left × Named (heap (now b)) right × (sizeAt (heap (now b)) left + sizeAt (heap (now b)) right < 1048576) ⌝ }
+    ensures { λ r. ⌜ Outcome (now (b .entry)) (now (b .exit)) r (withoutKey join (tree (heap (now (b .entry))) left) (tree (heap (now (b .entry))) right)) ⌝ }
+{
+    if left == 0 {
+        return Made::At(right);
+    }
+    if right == 0 {
+        return Made::At(left);
+    }
+    let Lost::Into(min) = remove_min(b, right) else {
+        return Made::Full;
+    };
+    join(b, min.key, min.value, left, min.node)
 }
