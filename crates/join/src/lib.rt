@@ -52,6 +52,7 @@ pub enum Parted {
     Full,
 }
 
+// The pieces as an answer.
 fn into_pieces(left: u32, found: Found, right: u32) -> Parted
     ensures { λ r. ⌜ r ≡ into left found right ⌝ }
 {
