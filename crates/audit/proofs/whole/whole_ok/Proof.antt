@@ -14,7 +14,7 @@ use Prim.Native.Nat.{_*_, _/_, _≤_}
 use lib.ListN.{length, replicate}
 use Rattle.area.specs.Area.{AtMost}
 use Rattle.area.proofs.Answers.{tells-yes, tells-no}
-use Rattle.area.proofs.Tallies.{zeros, at-most-le, links-most}
+use Rattle.area.proofs.Tallies.{zeros, at-most-le}
 use Rattle.audit.proofs.Parts.{area-long, sound-parts, last-answer}
 
 -- src/whole.rt:87:20
@@ -35,7 +35,7 @@ slice-aggregate-roots-ok c = search needs
 
 -- src/whole.rt:90:9
 roots-ok-requires : tie.Need-roots-ok-requires
-roots-ok-requires c κs = let st = c .before .before .before .before .before .before .before in let b = st .args .b .now in let a = st .args .a .now in let B = st .pre .0 in let ea = st .pre .2 in let len = area-long b a B ea in let ar = c .before .before .before .area-ok in let s = ar .last .1 .0 in (B, st .pre .1, omega (arith, len, st .pre .1), ar .kept .1 .0, at-most-le s (2 * (length a / 6)) 8192 (omega (arith, len, B .most)) (links-most a s (length a / 6) (ar .ensures .1 (not-false _ (c .before .if1 .left)))))
+roots-ok-requires c κs = let st = c .before .before .before .before .before .before .before in let b = st .args .b .now in let a = st .args .a .now in let B = st .pre .0 in let ea = st .pre .2 in let len = area-long b a B ea in let ar = c .before .before .before .area-ok in let s = ar .last .1 .0 in (B, st .pre .1, omega (arith, len, st .pre .1), ar .kept .1 .0, at-most-le s (2 * (length a / 6)) 8192 (omega (arith, len, B .most)) (ar .ensures .1 (not-false _ (c .before .if1 .left)) .most))
 
 -- src/whole.rt:91:9
 returns-2 : tie.Need-returns-2
