@@ -6,9 +6,9 @@ ghost use lib.ListN.{length};
 ghost use Rattle.area.specs.Answers.{Tells};
 ghost use Rattle.area.specs.Area.{area, AreaOk, AtMost, LinkTally};
 
-pub mod words;
 mod nodes;
 mod order;
+pub mod words;
 
 // Whether links, zeros, sizes and order are right in the area a; if so, t counts its links.
 pub fn area_ok(a: &[u32], t: &mut [u32]) -> bool

@@ -12,8 +12,7 @@ use native.Mathlib.Decide.{ℕ-discrete, decLt}
 use Rattle.model.specs.Tree.{leaf}
 use Rattle.model.specs.Heap.{Occupied, Named, load, tree, version}
 use Rattle.model.specs.Block.{word, room, nodeWord, bit, occupiedAt, heap, Shaped, SoundBlock}
-use Rattle.audit.specs.Fresh.{Fitting, freshBlock, Freshened}
-use Rattle.model.specs.Numbers.{SHAPE}
+use Rattle.audit.specs.Fresh.{Fitting, freshBlock}
 
 pub fitting-shaped : (b : List ℕ) (n : ℕ) → n ≡ room b → Fitting (length b) n → Shaped b
 fitting-shaped b n e F = let G : Fitting (length b) (room b) = rw e at F in record { least = G .least; most = G .most; whole = G .whole; long = G .long }
@@ -113,4 +112,3 @@ module _ (n words : ℕ) (F : Fitting words n) where
   pub fresh-empty : (v : ℕ) → version (heap (freshBlock n)) v ≡ leaf
   unfolding tree load
   fresh-empty v = rw (fresh-zero n (1 + v) (omega arith)) refl
-

@@ -1,8 +1,8 @@
 -- Roots counted one after another, and occupancy bits that come up one after another.
-use mathlib.Core.Path.{_≡_, refl, ap, sym, subst, _∙_}
+use mathlib.Core.Path.{_≡_, ap, sym, subst, _∙_}
 use mathlib.Core.Logic.{_≢_}
-use Prim.Native.Nat.{ℕ, zero, suc, _+_, _*_, _/_, _%_, _^_, _≤_, _<_}
-use mathlib.Core.Bool.{Bool, true, false, true≢false}
+use Prim.Native.Nat.{ℕ, _+_, _*_, _/_, _%_, _^_, _<_}
+use mathlib.Core.Bool.{false, true≢false}
 use mathlib.Core.List.{List}
 use lib.ListN.{length, getD, set}
 use lib.Dec.{eqb}
@@ -12,7 +12,7 @@ use native.Mathlib.Omega.{arith}
 use native.Mathlib.Numerals.{add-one}
 use native.Mathlib.Decide.{ℕ-discrete}
 use Rattle.model.specs.Heap.{Named, hit, hits}
-use Rattle.model.specs.Block.{word, room, bit, occupiedAt}
+use Rattle.model.specs.Block.{word, room, occupiedAt}
 use Rattle.area.specs.Answers.{Tells}
 use Rattle.area.specs.Area.{areaWord, area, AtMost}
 use Rattle.area.proofs.Answers.{tells-eqb, each-more}

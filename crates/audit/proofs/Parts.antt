@@ -10,14 +10,14 @@ use native.Mathlib.Omega.{arith}
 use native.Mathlib.Nat.{le-of-eq}
 use native.Mathlib.Decide.{ℕ-discrete, decLt}
 use Rattle.model.specs.Tree.{Ordered}
-use Rattle.model.specs.Heap.{Heap, Occupied, Named, sizeAt, load, tree, hits, refs, Linked, Kept, Sound}
+use Rattle.model.specs.Heap.{Heap, Occupied, Named, sizeAt, load, tree, refs, Linked, Kept, Sound}
 use Rattle.model.specs.Block.{word, room, nodeWord, occupiedAt, heap, Shaped, SoundBlock}
 use Rattle.model.proofs.Steps.{refs-unoccupied}
 use Rattle.area.specs.Answers.{Tells, Each}
 use Rattle.area.specs.Area.{areaWord, area, AreaOk, LinkTally}
 use Rattle.area.proofs.Answers.{tells-map}
 use Rattle.area.proofs.Area.{getD-past, within-area}
-use Rattle.audit.specs.Whole.{nodesOf, RootsOk, RootTally, CountOk, CountsOk}
+use Rattle.audit.specs.Whole.{nodesOf, RootsOk, RootTally, CountsOk}
 
 -- the area with the block's roots
 abbrev withRoots : List ℕ → (ℕ → ℕ) → Heap

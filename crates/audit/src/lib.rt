@@ -10,6 +10,7 @@ pub mod inbox;
 mod whole;
 
 const SHAPE: u32 = 1;
+
 const DAMAGED: u32 = 2;
 
 // Whether n may be N and a block of N = n has this many words.

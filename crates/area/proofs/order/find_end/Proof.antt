@@ -1,5 +1,6 @@
-use native.Mathlib.Omega.{arith}
+-- What ends the walk's place ends x's links too, and the walk ends because sizes fall along links.
 use lib.ListN.{getD}
+use native.Mathlib.Omega.{arith}
 use Rattle.model.specs.Heap.{sizeAt}
 use Rattle.area.specs.Area.{area}
 use Rattle.area.proofs.Area.{within-area}
@@ -13,13 +14,11 @@ Inv-loop a n j t x m₀ m = EndWalk a j x m
 abbrev μ-loop : tie.MeasureT-loop
 μ-loop a n j t x m₀ m = sizeAt (area a) m
 
--- src/lib.rt:120:5
 loop-holds : tie.Need-loop-holds Inv-loop μ-loop
 loop-holds c =
     let st = c .before .before in
     record { occupied = st .pre .4; up = λ e h. h }
 
--- src/lib.rt:120:11
 mul-if1 : tie.Need-mul-if1 Inv-loop μ-loop
 mul-if1 c =
     let st = c .before .before .before in
@@ -29,7 +28,6 @@ mul-if1 c =
     let w = within-area a n (lp .m) (st .pre .0) (lp .inv .occupied) in
     omega (arith, w .1, st .pre .1)
 
--- src/lib.rt:120:11
 shared-slice-read-if1 : tie.Need-shared-slice-read-if1 Inv-loop μ-loop
 shared-slice-read-if1 c =
     let st = c .before .before .before .before in
@@ -39,7 +37,6 @@ shared-slice-read-if1 c =
     let w = within-area a n (lp .m) (st .pre .0) (lp .inv .occupied) in
     omega (arith, w .1, st .pre .1, st .pre .5)
 
--- src/lib.rt:121:13
 node-word-requires : tie.Need-node-word-requires Inv-loop μ-loop
 node-word-requires c κs =
     let st = c .before .before .before .before .before in
@@ -49,7 +46,6 @@ node-word-requires c κs =
     let w = within-area a n (lp .m) (st .pre .0) (lp .inv .occupied) in
     (st .pre .0, w .0, w .1, st .pre .2)
 
--- src/lib.rt:123:20
 cast-result : tie.Need-cast-result Inv-loop μ-loop
 cast-result c =
     let st = c .before .before .before .before .before .before .before in
@@ -59,7 +55,6 @@ cast-result c =
     let w = within-area a n (lp .m) (st .pre .0) (lp .inv .occupied) in
     omega (arith, w .1, st .pre .1)
 
--- src/lib.rt:123:13
 returns : tie.Need-returns Inv-loop μ-loop
 returns c =
     let st = c .before .before .before .before .before .before .before in
@@ -70,7 +65,6 @@ returns c =
     let y = c .before .node-word in
     endwalk-stop a j x (lp .m) (y .result) (lp .inv) (y .ensures .0) (c .if2 .taken)
 
--- src/lib.rt:120:5
 loop-less : tie.Need-loop-less Inv-loop μ-loop
 loop-less c =
     let st = c .before .before .before .before .before .before .before in
@@ -81,7 +75,6 @@ loop-less c =
     let y = c .before .node-word in
     walk-falls a j (st .pre .3) (lp .m) (y .result) (lp .inv .occupied) (y .ensures .0)
 
--- src/lib.rt:120:5
 loop-again : tie.Need-loop-again Inv-loop μ-loop
 loop-again c =
     let st = c .before .before .before .before .before .before .before in
@@ -92,7 +85,6 @@ loop-again c =
     let y = c .before .node-word in
     endwalk-on a j (st .pre .3) x (lp .m) (y .result) (lp .inv) (y .ensures .0) (c .if2 .left)
 
--- src/lib.rt:127:5
 mul-result : tie.Need-mul-result Inv-loop μ-loop
 mul-result c =
     let st = c .before .before .before .before .before in
@@ -102,7 +94,6 @@ mul-result c =
     let w = within-area a n (lp .m) (st .pre .0) (lp .inv .occupied) in
     omega (arith, w .1, st .pre .1)
 
--- src/lib.rt:127:5
 shared-slice-read-result : tie.Need-shared-slice-read-result Inv-loop μ-loop
 shared-slice-read-result c =
     let st = c .before .before .before .before .before .before in
@@ -112,7 +103,6 @@ shared-slice-read-result c =
     let w = within-area a n (lp .m) (st .pre .0) (lp .inv .occupied) in
     omega (arith, w .1, st .pre .1, st .pre .5)
 
--- src/lib.rt:115:1
 returns-2 : tie.Need-returns-2 Inv-loop μ-loop
 returns-2 c =
     let st = c .before .before .before .before .before .before in
