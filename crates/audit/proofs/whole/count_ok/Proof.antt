@@ -1,6 +1,7 @@
 -- The count is the tally's, and then the bit must be 0 or 1 as the count is 0 or not.
-use mathlib.Core.Path.{sym, _∙_}
+use mathlib.Core.Path.{_∙_}
 use borrow.Author.Needs.{needs}
+use native.Mathlib.Omega.{arith}
 use Rattle.audit.proofs.Marks.{count-dead, count-live}
 use Rattle.audit.proofs.whole.count_ok.Statement.{statement}
 use Rattle.audit.proofs.whole.count_ok.Tie as tie
@@ -21,7 +22,7 @@ returns : tie.Need-returns
 returns c =
     let k = c .before .before .before .node-word in
     let w = c .before .wide in
-    λ C. c .if1 .taken (k .ensures .0 ∙ C .count ∙ sym (w .ensures .0))
+    λ C. absurd (omega (arith, c .if1 .taken, k .ensures .0, C .count, w .ensures .0))
 
 returns-2 : tie.Need-returns-2
 returns-2 c =

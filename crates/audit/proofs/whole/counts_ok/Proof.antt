@@ -4,7 +4,8 @@ use Prim.Native.Nat.{_+_, _-_, _*_, _/_, _%_, _≤_}
 use borrow.Author.Needs.{needs}
 use native.Mathlib.Omega.{arith}
 use Rattle.model.specs.Block.{occupiedAt}
-use Rattle.area.proofs.Answers.{tells-yes, tells-no, each-none, each-join}
+use Rattle.area.proofs.Answers.{tells-yes, tells-no, each-none}
+use Rattle.audit.proofs.Marks.{words-more}
 use Rattle.audit.specs.Whole.{CountOk, CountsOk}
 use Rattle.audit.proofs.whole.counts_ok.Statement.{statement}
 use Rattle.audit.proofs.whole.counts_ok.Tie as tie
@@ -28,8 +29,10 @@ word-ok-requires c κs =
 
 returns : tie.Need-returns Inv-loop μ-loop
 returns c =
+    let st = c .before .before .before .before .before .before .before in
+    let lp = c .before .before .before .loop in
     let k = c .before .word-ok in
-    λ all. tells-no (k .result) (k .ensures) (c .if1 .taken) (λ i p q. all i (omega arith) (omega arith))
+    λ all. tells-no {P = CountsOk (st .args .b .now) (st .args .a .now) (st .args .t .now) (32 * lp .w) (32 * lp .w + 32)} (k .result) (k .ensures) (c .if1 .taken) (λ i p q. all i (omega arith) (omega arith))
 
 add-w : tie.Need-add-w Inv-loop μ-loop
 add-w c = search needs
@@ -45,10 +48,7 @@ loop-again c =
     let t = st .args .t .now in
     let lp = c .before .before .before .loop in
     let k = c .before .word-ok in
-    let e : 32 * lp .w + 32 ≡ 32 * (lp .w + 1) = omega arith in (
-      omega arith,
-      subst (CountsOk b a t 0) e (each-join 0 (32 * lp .w) (32 * lp .w + 32) (λ i. CountOk a t (occupiedAt b i) i) (lp .inv .1) (tells-yes (k .result) (k .ensures) (c .if1 .left))),
-    )
+    (omega arith, words-more b a t (lp .w) (lp .inv .1) (tells-yes {P = CountsOk b a t (32 * lp .w) (32 * lp .w + 32)} (k .result) (k .ensures) (c .if1 .left)))
 
 returns-2 : tie.Need-returns-2 Inv-loop μ-loop
 returns-2 c =
