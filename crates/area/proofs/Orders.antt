@@ -72,8 +72,8 @@ before-trans x y z = link-ind (λ j. Before j x y → Before j y z → Before j 
 module _ (a : List ℕ) (L : Linked (area a)) where
   pub down : (j : ℕ) → 2 ≤ j → j ≤ 3 → Down a j
   down = link-ind (Down a)
-      (record { named = L .lefts; falls = λ m o. omega (arith, L .sizes m o, sizeAt-occupied (area a) L m o) })
-      (record { named = L .rights; falls = λ m o. omega (arith, L .sizes m o, sizeAt-occupied (area a) L m o) })
+      (record { word = omega arith; named = L .lefts; falls = λ m o. omega (arith, L .sizes m o, sizeAt-occupied (area a) L m o) })
+      (record { word = omega arith; named = L .rights; falls = λ m o. omega (arith, L .sizes m o, sizeAt-occupied (area a) L m o) })
 
   abbrev keys : (ℕ → Type 0) → ℕ → Type 0
   keys P m = Every P (entries (tree (area a) m))

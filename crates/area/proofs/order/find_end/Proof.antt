@@ -4,7 +4,7 @@ use native.Mathlib.Omega.{arith}
 use Rattle.model.specs.Heap.{sizeAt}
 use Rattle.area.specs.Area.{area}
 use Rattle.area.proofs.Area.{within-area}
-use Rattle.area.proofs.Ends.{notes-at, EndWalk, endwalk-on, walk-falls, endwalk-stop}
+use Rattle.area.proofs.Ends.{EndWalk, endwalk-on, walk-falls, endwalk-stop}
 use Rattle.area.proofs.order.find_end.Statement.{statement}
 use Rattle.area.proofs.order.find_end.Tie as tie
 
@@ -35,7 +35,7 @@ shared-slice-read-if1 c =
     let n = st .args .n in
     let lp = c .before .loop in
     let w = within-area a n (lp .m) (st .pre .0) (lp .inv .occupied) in
-    omega (arith, w .1, st .pre .1, st .pre .5)
+    omega (arith, w .1, st .pre .1, st .pre .3 .long)
 
 node-word-requires : tie.Need-node-word-requires Inv-loop μ-loop
 node-word-requires c κs =
@@ -44,7 +44,7 @@ node-word-requires c κs =
     let n = st .args .n in
     let lp = c .before .before .loop in
     let w = within-area a n (lp .m) (st .pre .0) (lp .inv .occupied) in
-    (st .pre .0, w .0, w .1, st .pre .2)
+    (st .pre .0, w .0, w .1, st .pre .2 .word)
 
 cast-result : tie.Need-cast-result Inv-loop μ-loop
 cast-result c =
@@ -73,7 +73,7 @@ loop-less c =
     let x = st .args .x in
     let lp = c .before .before .before .before .loop in
     let y = c .before .node-word in
-    walk-falls a j (st .pre .3) (lp .m) (y .result) (lp .inv .occupied) (y .ensures .0)
+    walk-falls a j (st .pre .2) (lp .m) (y .result) (lp .inv .occupied) (y .ensures .0)
 
 loop-again : tie.Need-loop-again Inv-loop μ-loop
 loop-again c =
@@ -83,7 +83,7 @@ loop-again c =
     let x = st .args .x in
     let lp = c .before .before .before .before .loop in
     let y = c .before .node-word in
-    endwalk-on a j (st .pre .3) x (lp .m) (y .result) (lp .inv) (y .ensures .0) (c .if2 .left)
+    endwalk-on a j (st .pre .2) x (lp .m) (y .result) (lp .inv) (y .ensures .0) (c .if2 .left)
 
 mul-result : tie.Need-mul-result Inv-loop μ-loop
 mul-result c =
@@ -101,7 +101,7 @@ shared-slice-read-result c =
     let n = st .args .n in
     let lp = c .before .before .before .loop in
     let w = within-area a n (lp .m) (st .pre .0) (lp .inv .occupied) in
-    omega (arith, w .1, st .pre .1, st .pre .5)
+    omega (arith, w .1, st .pre .1, st .pre .3 .long)
 
 returns-2 : tie.Need-returns-2 Inv-loop μ-loop
 returns-2 c =
@@ -110,7 +110,7 @@ returns-2 c =
     let j = st .args .j in
     let t = st .args .t .now in
     let lp = c .before .before .before .loop in
-    lp .inv .up (getD t (lp .m) 0) (notes-at a j t (lp .m) (st .pre .6) (c .before .if1 .left))
+    lp .inv .up (getD t (lp .m) 0) (st .pre .3 .ends (lp .m) (c .before .if1 .left))
 
 pub find-end-spec : {M : Type 1} → statement M
 find-end-spec =

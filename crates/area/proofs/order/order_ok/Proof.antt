@@ -16,7 +16,7 @@ returns c =
     let i = st .args .i in
     let ct = c .before .node-word in
     let z = not-live a i (ct .result) (ct .ensures .0) (c .if1 .taken) in
-    (record { left = λ o. absurd (z o); right = λ o. absurd (z o) }, st .pre .6, st .pre .8)
+    (record { left = λ o. absurd (z o); right = λ o. absurd (z o) }, st .pre .5, st .pre .6)
 
 side-ok-requires : tie.Need-side-ok-requires
 side-ok-requires c κs =
@@ -25,7 +25,7 @@ side-ok-requires c κs =
     let i = st .args .i in
     let ct = c .before .before .node-word in
     let o = live a i (ct .result) (ct .ensures .0) (c .before .if1 .left) in
-    (st .pre .0, st .pre .1, omega arith, omega arith, st .pre .2, o, st .pre .5, st .pre .6)
+    (st .pre .0, st .pre .1, omega arith, omega arith, st .pre .2, o, st .pre .5)
 
 same-length : tie.Need-same-length
 same-length c = search needs
@@ -38,7 +38,7 @@ returns-2 c =
     let ct = c .before .before .before .before .before .before .node-word in
     let o = live a i (ct .result) (ct .ensures .0) (c .before .before .before .before .before .if1 .left) in
     let lo = c .before .before .before .side-ok in
-    (λ O. tells-no (lo .result) (lo .ensures .0) (c .if2 .taken) (O .left o), lo .ensures .1, st .pre .8)
+    (λ O. tells-no (lo .result) (lo .ensures .0) (c .if2 .taken) (O .left o), lo .ensures .1, st .pre .6)
 
 side-ok-requires-2 : tie.Need-side-ok-requires-2
 side-ok-requires-2 c κs =
@@ -47,7 +47,7 @@ side-ok-requires-2 c κs =
     let i = st .args .i in
     let ct = c .before .before .before .before .before .before .before .node-word in
     let o = live a i (ct .result) (ct .ensures .0) (c .before .before .before .before .before .before .if1 .left) in
-    (st .pre .0, st .pre .1, omega arith, omega arith, st .pre .2, o, st .pre .7, st .pre .8)
+    (st .pre .0, st .pre .1, omega arith, omega arith, st .pre .2, o, st .pre .6)
 
 same-length-2 : tie.Need-same-length-2
 same-length-2 c = search needs

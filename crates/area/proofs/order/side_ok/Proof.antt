@@ -24,7 +24,7 @@ node-word-requires c κs =
 returns : tie.Need-returns
 returns c =
     let st = c .before .before .before .before in
-    (λ p. absurd (p (sym (c .before .node-word .ensures .0) ∙ c .if1 .taken)), st .pre .7)
+    (λ p. absurd (p (sym (c .before .node-word .ensures .0) ∙ c .if1 .taken)), st .pre .6)
 
 sub-end-of : tie.Need-sub-end-of
 sub-end-of c = search needs
@@ -38,7 +38,7 @@ end-of-requires c κs =
     let x = c .before .before .node-word in
     let o = link-occupied (area a) (x .result) (subst (Named (area a)) (sym (x .ensures .0)) (down a (st .pre .4) j (st .pre .2) (st .pre .3) .named i (st .pre .5))) (c .before .if1 .left) in
     let D = down a (st .pre .4) (5 - j) (omega (arith, st .pre .2, st .pre .3)) (omega (arith, st .pre .2, st .pre .3)) in
-    (st .pre .0, st .pre .1, omega arith, D, o, st .pre .6, st .pre .7)
+    (st .pre .0, st .pre .1, D, st .pre .6, o)
 
 node-word-requires-2 : tie.Need-node-word-requires-2
 node-word-requires-2 c κs =
