@@ -17,10 +17,6 @@ pub tells-no : {P : Type 0} (r : Bool) → Tells r P → not r ≡ true → P �
 tells-no true t e = absurd (true≢false (sym e))
 tells-no false t e = t
 
-pub tells-true : {P : Type 0} (r : Bool) → Tells r P → r ≡ true → P
-tells-true true t e = t
-tells-true false t e = absurd (true≢false (sym e))
-
 pub tells-map : {P Q : Type 0} (r : Bool) → (P → Q) → (Q → P) → Tells r P → Tells r Q
 tells-map true f g t = f t
 tells-map false f g t = λ q. t (g q)

@@ -3,13 +3,14 @@ use mathlib.Core.Path.{_≡_, refl, sym, _∙_}
 use mathlib.Core.Logic.{_≢_}
 use Prim.Native.Nat.{ℕ, zero, suc, _≤_, _<_}
 use mathlib.Core.List.{List}
-use lib.ListN.{length, getD, set}
+use lib.ListN.{length, getD, set, length-set}
 use lib.Seq.{getD-set-same, getD-set-other}
 use native.Mathlib.Decide.{ℕ-discrete}
 use native.Mathlib.Omega.{arith}
 use Rattle.model.specs.Heap.{Occupied, Named, sizeAt}
 use Rattle.model.proofs.Lookups.{link-occupied}
 use Rattle.area.specs.Area.{areaWord, area, AtMost}
+use Rattle.area.proofs.Tallies.{at-most}
 use Rattle.area.specs.Order.{Down, Ends, stop, on, Notes}
 
 module _ (a : List ℕ) (j : ℕ) where
@@ -24,21 +25,15 @@ module _ (a : List ℕ) (j : ℕ) where
   ends-next (on p h) q = h
 
   -- notes
-  pub notes-at : (t : List ℕ) (m : ℕ) → Notes a j t → getD t m 0 ≢ 0 → Ends a j m (getD t m 0)
-  unfolding Notes
-  notes-at t m N p = N m p
-
-  pub notes-none : (t : List ℕ) → AtMost t 0 → Notes a j t
-  unfolding Notes AtMost
-  notes-none t z m p = absurd (p (omega (arith, z m)))
+  pub notes-none : (t : List ℕ) → length t ≡ 4097 → AtMost t 0 → Notes a j t
+  notes-none t l z = record { long = l; ends = λ m p. absurd (p (omega (arith, at-most t 0 m z))) }
 
   pub notes-more : (t : List ℕ) (m e : ℕ) → m < length t → Notes a j t → Ends a j m e → Notes a j (set t m e)
-  unfolding Notes
-  notes-more t m e lt N h x p = go (ℕ-discrete x m)
+  notes-more t m e lt N h = record { long = length-set t m e ∙ N .long; ends = λ x p. go x p (ℕ-discrete x m) }
     where
-      go : Dec (x ≡ m) → Ends a j x (getD (set t m e) x 0)
-      go (yes q) = rw (q, getD-set-same t m e 0 lt) h
-      go (no q) = rw (getD-set-other t m x e 0 q) (N x (λ z. p (getD-set-other t m x e 0 q ∙ z)))
+      go : (x : ℕ) → getD (set t m e) x 0 ≢ 0 → Dec (x ≡ m) → Ends a j x (getD (set t m e) x 0)
+      go x p (yes q) = rw (q, getD-set-same t m e 0 lt) h
+      go x p (no q) = rw (getD-set-other t m x e 0 q) (N .ends x (λ z. p (getD-set-other t m x e 0 q ∙ z)))
 
   -- a walk down the links j from x has come to m
   pub record EndWalk (x m : ℕ) : Type 0 where

@@ -1,5 +1,5 @@
 -- The test at each node orders every tree: where a subtree is ordered, its key nearest to the node speaks for all of it.
-use mathlib.Core.Path.{_≡_, refl, ap, sym, subst, _∙_}
+use mathlib.Core.Path.{_≡_, sym, subst, _∙_}
 use mathlib.Core.Logic.{_≢_}
 use Prim.Native.Nat.{ℕ, zero, suc, _-_, _*_, _≤_, _<_}
 use mathlib.Core.List.{List, [], _∷_, _++_}
@@ -8,14 +8,14 @@ use lib.Dec.{ltb}
 use native.Mathlib.Decide.{ℕ-discrete}
 use native.Mathlib.Omega.{arith}
 use Rattle.model.specs.Tree.{node, Entry, entries, AllBelow, AllAbove, Ordered}
-use Rattle.model.specs.Heap.{Occupied, Named, sizeAt, load, tree, Linked}
+use Rattle.model.specs.Heap.{Occupied, Named, load, tree, Linked}
 use Rattle.model.proofs.Loads.{tree-node, tree-ind, sizeAt-occupied}
 use Rattle.model.proofs.Lookups.{link-occupied}
 use Rattle.area.specs.Answers.{Tells, Each}
 use Rattle.area.specs.Area.{areaWord, area, AreaOk}
 use Rattle.area.specs.Order.{Down, Ends, stop, on, Before, SideOk, OrderOk}
 use Rattle.area.proofs.Answers.{tells-ltb}
-use Rattle.area.proofs.Area.{live, not-live, within-area}
+use Rattle.area.proofs.Area.{within-area}
 use Rattle.area.proofs.Ends.{ends-once, some-end}
 
 -- P of every key of a list
@@ -72,8 +72,8 @@ before-trans x y z = link-ind (λ j. Before j x y → Before j y z → Before j 
 module _ (a : List ℕ) (L : Linked (area a)) where
   pub down : (j : ℕ) → 2 ≤ j → j ≤ 3 → Down a j
   down = link-ind (Down a)
-      (record { named = L .lefts; falls = λ m o. omega (arith, L .sizes m o, sizeAt-occupied (area a) L m o) })
-      (record { named = L .rights; falls = λ m o. omega (arith, L .sizes m o, sizeAt-occupied (area a) L m o) })
+      (record { word = omega arith; named = L .lefts; falls = λ m o. omega (arith, L .sizes m o, sizeAt-occupied (area a) L m o) })
+      (record { word = omega arith; named = L .rights; falls = λ m o. omega (arith, L .sizes m o, sizeAt-occupied (area a) L m o) })
 
   abbrev keys : (ℕ → Type 0) → ℕ → Type 0
   keys P m = Every P (entries (tree (area a) m))

@@ -1,16 +1,15 @@
 -- A tally under one bump after another.
-use mathlib.Core.Path.{_≡_, refl, ap, sym, _∙_}
+use mathlib.Core.Path.{_≡_, refl, ap, sym, subst, _∙_}
 use Prim.Native.Nat.{ℕ, zero, suc, _+_, _*_, _≤_, _<_}
-use mathlib.Core.Bool.{Bool, true, false}
 use mathlib.Core.List.{List}
 use lib.ListN.{length, getD, set, replicate}
 use lib.Seq.{getD-set-same, getD-set-other}
 use native.Mathlib.Omega.{arith}
 use native.Mathlib.Numerals.{add-one}
 use native.Mathlib.Decide.{ℕ-discrete}
-use Rattle.model.specs.Heap.{hit, hits}
+use Rattle.model.specs.Heap.{Occupied, hit, hits}
 use Rattle.model.proofs.Counts.{hit-yes, hit-no}
-use Rattle.area.specs.Area.{areaWord, area, NodeOk, AtMost, LinkTally}
+use Rattle.area.specs.Area.{areaWord, area, NodeOk, AtMost, Counts, LinkTally}
 use Rattle.area.proofs.Area.{named-le}
 
 hit-le : (x n : ℕ) → hit x n ≤ 1
@@ -46,34 +45,39 @@ pub at-most-le : (t : List ℕ) (m k : ℕ) → m ≤ k → AtMost t m → AtMos
 unfolding AtMost
 at-most-le t m k le A x = omega (arith, A x)
 
+at-most-is : (t : List ℕ) (m : ℕ) → ((x : ℕ) → getD t x 0 ≤ m) → AtMost t m
+unfolding AtMost
+at-most-is t m A = A
+
 pub bumped-most : (t u : List ℕ) (m y : ℕ) → AtMost t m → y < length t → u ≡ set t y (getD t y 0 + 1) → AtMost u (m + 1)
 unfolding AtMost
 bumped-most t u m y A lt e x = rw e (omega (arith, bumped t y x lt, A x, hit-le y x))
 
--- the links of the first k nodes
+-- the links l and r of a node, bumped or, of a free node, passed over
+pub counts-two : (t u v : List ℕ) (l r : ℕ) → l < length t → r < length u → u ≡ set t l (getD t l 0 + 1) → v ≡ set u r (getD u r 0 + 1) → Counts t v l r
+counts-two t u v l r ll lr eu ev = record { at = λ x _. two x; most = λ m A. at-most-is v (m + 2) (λ x. omega (arith, two x, at-most t m x A, hit-le l x, hit-le r x)) }
+  where
+    two : (x : ℕ) → getD v x 0 ≡ getD t x 0 + (hit l x + hit r x)
+    two x =
+        let one : getD u x 0 ≡ getD t x 0 + hit l x = rw eu (bumped t l x ll) in
+        let more : getD v x 0 ≡ getD u x 0 + hit r x = rw ev (bumped u r x lr) in
+        omega arith
+
+pub counts-none : (t : List ℕ) (l r : ℕ) → l ≡ 0 → r ≡ 0 → Counts t t l r
+counts-none t l r el er = record { at = λ x p. omega (arith, hit-no l x (omega arith), hit-no r x (omega arith)); most = λ m A. at-most-le t m (m + 2) (omega arith) A }
+
 module _ (a : List ℕ) where
   pub links-none : (t : List ℕ) → AtMost t 0 → LinkTally a t 0
-  unfolding LinkTally hits AtMost
-  links-none t z x = omega (arith, z x)
+  unfolding hits
+  links-none t z = record { at = λ x _. omega (arith, at-most t 0 x z); most = z }
 
-  pub links-more : (t u v : List ℕ) (k l r : ℕ) → LinkTally a t k → l ≡ areaWord a 2 (k + 1) → r ≡ areaWord a 3 (k + 1) → l < length t → r < length u
-      → u ≡ set t l (getD t l 0 + 1) → v ≡ set u r (getD u r 0 + 1) → LinkTally a v (k + 1)
-  unfolding LinkTally hits
-  links-more t u v k l r T el er ll lr eu ev x =
-      let one : getD u x 0 ≡ getD t x 0 + hit l x = rw eu (bumped t l x ll) in
-      let two : getD v x 0 ≡ getD u x 0 + hit r x = rw ev (bumped u r x lr) in
-      let hl : hit l x ≡ hit (areaWord a 2 (suc k)) x = ap (λ z. hit z x) (rw (add-one k) at el) in
-      let hr : hit r x ≡ hit (areaWord a 3 (suc k)) x = ap (λ z. hit z x) (rw (add-one k) at er) in
-      rw (add-one k) (omega (arith, T x))
-
-  pub links-most : (t : List ℕ) (k : ℕ) → LinkTally a t k → AtMost t (2 * k)
-  unfolding LinkTally AtMost
-  links-most t k T x = omega (arith, T x, hits-le (λ i. areaWord a 2 (suc i)) x k, hits-le (λ i. areaWord a 3 (suc i)) x k)
+  pub links-more : (t u : List ℕ) (k : ℕ) → LinkTally a t k → Counts t u (areaWord a 2 (k + 1)) (areaWord a 3 (k + 1)) → LinkTally a u (k + 1)
+  unfolding hits
+  links-more t u k T C = record {
+    at = λ x p. let h : getD u x 0 ≡ getD t x 0 + (hit (areaWord a 2 (suc k)) x + hit (areaWord a 3 (suc k)) x) = rw (add-one k) at (C .at x p) in rw (add-one k) (omega (arith, T .at x p));
+    most = let e : 2 * k + 2 ≡ 2 * (k + 1) = omega arith in subst (AtMost u) e (C .most (2 * k) (T .most));
+  }
 
   -- the links of a node that passed its test have places in the tally
-  pub link-le : (n i : ℕ) → length a ≡ 6 * n → NodeOk (area a) i → (areaWord a 2 i ≤ n) × (areaWord a 3 i ≤ n)
-  link-le n i len N = go (area a .occupied i) refl
-    where
-      go : (o : Bool) → area a .occupied i ≡ o → (areaWord a 2 i ≤ n) × (areaWord a 3 i ≤ n)
-      go true o = (named-le a n (areaWord a 2 i) len (N .left o), named-le a n (areaWord a 3 i) len (N .right o))
-      go false o = let B = N .blank o in (omega (arith, B .left), omega (arith, B .right))
+  pub link-le : (n i : ℕ) → length a ≡ 6 * n → NodeOk (area a) i → Occupied (area a) i → (areaWord a 2 i ≤ n) × (areaWord a 3 i ≤ n)
+  link-le n i len N o = (named-le a n (areaWord a 2 i) len (N .left o), named-le a n (areaWord a 3 i) len (N .right o))

@@ -6,7 +6,7 @@ use mathlib.Core.List.{List}
 use lib.ListN.{length, getD}
 use lib.Dec.{eqb}
 use Rattle.model.specs.Tree.{Ordered}
-use Rattle.model.specs.Heap.{Heap, Occupied, Named, sizeAt, tree, hits, Blank, Linked}
+use Rattle.model.specs.Heap.{Heap, Occupied, Named, sizeAt, tree, hit, hits, Blank, Linked}
 
 -- word j of node n of the area a, in which node 1 comes first
 abbrev pub areaWord : List ℕ → ℕ → ℕ → ℕ
@@ -43,6 +43,12 @@ pub record AreaOk (h : Heap) : Type 0 where
 unfoldable pub AtMost : List ℕ → ℕ → Type 0
 AtMost t m = (x : ℕ) → getD t x 0 ≤ m
 
--- t holds how often each number is among the links of the first k nodes
-unfoldable pub LinkTally : List ℕ → List ℕ → ℕ → Type 0
-LinkTally a t k = (x : ℕ) → getD t x 0 ≡ hits (λ i. areaWord a 2 (suc i)) x k + hits (λ i. areaWord a 3 (suc i)) x k
+-- u holds one more than t for each of the links l and r that names a node
+pub record Counts (t u : List ℕ) (l r : ℕ) : Type 0 where
+  pub at : (x : ℕ) → 1 ≤ x → getD u x 0 ≡ getD t x 0 + (hit l x + hit r x)
+  pub most : (m : ℕ) → AtMost t m → AtMost u (m + 2)
+
+-- t holds how often each node is among the links of the first k nodes
+pub record LinkTally (a t : List ℕ) (k : ℕ) : Type 0 where
+  pub at : (x : ℕ) → 1 ≤ x → getD t x 0 ≡ hits (λ i. areaWord a 2 (suc i)) x k + hits (λ i. areaWord a 3 (suc i)) x k
+  pub most : AtMost t (2 * k)

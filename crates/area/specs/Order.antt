@@ -4,13 +4,14 @@ use mathlib.Core.Logic.{_≢_}
 use Prim.Native.Nat.{ℕ, _-_, _<_}
 use mathlib.Core.Bool.{true, false}
 use mathlib.Core.List.{List}
-use lib.ListN.{getD}
+use lib.ListN.{length, getD}
 use lib.Dec.{eqb}
 use Rattle.model.specs.Heap.{Occupied, Named, sizeAt}
 use Rattle.area.specs.Area.{areaWord, area}
 
 -- the links j of the area lead to nodes of it, and sizes fall along them
 pub record Down (a : List ℕ) (j : ℕ) : Type 0 where
+  pub word : j < 6
   pub named : (m : ℕ) → Occupied (area a) m → Named (area a) (areaWord a j m)
   pub falls : (m : ℕ) → Occupied (area a) m → sizeAt (area a) (areaWord a j m) < sizeAt (area a) m
 
@@ -20,8 +21,9 @@ pub data Ends (a : List ℕ) (j : ℕ) : ℕ → ℕ → Type 0 where
   on : {m e : ℕ} → areaWord a j m ≢ 0 → Ends a j (areaWord a j m) e → Ends a j m e
 
 -- t notes of some nodes where their links j end
-unfoldable pub Notes : List ℕ → ℕ → List ℕ → Type 0
-Notes a j t = (m : ℕ) → getD t m 0 ≢ 0 → Ends a j m (getD t m 0)
+pub record Notes (a : List ℕ) (j : ℕ) (t : List ℕ) : Type 0 where
+  pub long : length t ≡ 4097
+  pub ends : (m : ℕ) → getD t m 0 ≢ 0 → Ends a j m (getD t m 0)
 
 -- along links j the keys go up (3, right) or down (2, left): x comes before y
 abbrev pub Before : ℕ → ℕ → ℕ → Type 0

@@ -8,7 +8,7 @@ ghost use mathlib.Core.Bool.{true};
 ghost use Prim.Native.Nat.{_*_, _≤_};
 ghost use lib.ListN.{length};
 ghost use Rattle.area.specs.Answers.{Tells, Each};
-ghost use Rattle.area.specs.Area.{area, NodeOk, AtMost, LinkTally};
+ghost use Rattle.area.specs.Area.{areaWord, area, NodeOk, AtMost, Counts, LinkTally};
 
 // Whether node i is as it has to be, order and count apart.
 fn node_ok(a: &[u32], n: usize, i: usize) -> bool
@@ -30,6 +30,18 @@ fn node_ok(a: &[u32], n: usize, i: usize) -> bool
     s == 1 + size_at(a, n, l) + size_at(a, n, r)
 }
 
+// t counts the links of node i. A node without a count has none, and most of a block may be such nodes.
+fn count_links(a: &[u32], n: usize, t: &mut [u32], i: usize)
+    requires { ⌜ (length (now a) ≡ 6 * n) × (1 ≤ i) × (i ≤ n) × (n ≤ 4096) × (length (now t) ≡ 4097) × AtMost (now t) 8192 × NodeOk (area (now a)) i ⌝ }
+    ensures { λ _. ⌜ Counts (now (t .entry)) (now (t .exit)) (areaWord (now (a .entry)) 2 i) (areaWord (now (a .entry)) 3 i) ⌝ }
+{
+    if node_word(a, n, 5, i) == 0 {
+        return;
+    }
+    bump(t, node_word(a, n, 2, i));
+    bump(t, node_word(a, n, 3, i));
+}
+
 // Whether each node is; if so, t counts the links of all, in the same pass.
 pub fn nodes_ok(a: &[u32], n: usize, t: &mut [u32]) -> bool
     requires { ⌜ (length (now a) ≡ 6 * n) × (n ≤ 4096) × (length (now t) ≡ 4097) × AtMost (now t) 0 ⌝ }
@@ -40,8 +52,7 @@ pub fn nodes_ok(a: &[u32], n: usize, t: &mut [u32]) -> bool
         if !node_ok(a, n, i + 1) {
             return false;
         }
-        bump(t, node_word(a, n, 2, i + 1));
-        bump(t, node_word(a, n, 3, i + 1));
+        count_links(a, n, t, i + 1);
         i += 1;
     }
     true

@@ -1,8 +1,8 @@
 -- Roots counted one after another, and occupancy bits that come up one after another.
-use mathlib.Core.Path.{_≡_, refl, ap, sym, subst, _∙_}
+use mathlib.Core.Path.{_≡_, ap, sym, subst, _∙_}
 use mathlib.Core.Logic.{_≢_}
-use Prim.Native.Nat.{ℕ, zero, suc, _+_, _*_, _/_, _%_, _^_, _≤_, _<_}
-use mathlib.Core.Bool.{Bool, true, false, true≢false}
+use Prim.Native.Nat.{ℕ, _+_, _*_, _/_, _%_, _^_, _<_}
+use mathlib.Core.Bool.{false, true≢false}
 use mathlib.Core.List.{List}
 use lib.ListN.{length, getD, set}
 use lib.Dec.{eqb}
@@ -12,10 +12,10 @@ use native.Mathlib.Omega.{arith}
 use native.Mathlib.Numerals.{add-one}
 use native.Mathlib.Decide.{ℕ-discrete}
 use Rattle.model.specs.Heap.{Named, hit, hits}
-use Rattle.model.specs.Block.{word, room, bit, occupiedAt}
+use Rattle.model.specs.Block.{word, room, occupiedAt}
 use Rattle.area.specs.Answers.{Tells}
 use Rattle.area.specs.Area.{areaWord, area, AtMost}
-use Rattle.area.proofs.Answers.{tells-eqb, each-more}
+use Rattle.area.proofs.Answers.{tells-eqb, each-more, each-join}
 use Rattle.area.proofs.Area.{dead, live}
 use Rattle.area.proofs.Tallies.{hits-le, bumped}
 use Rattle.audit.specs.Whole.{RootsOk, RootTally, CountOk, CountsOk}
@@ -55,6 +55,10 @@ module _ (a t : List ℕ) (i c m : ℕ) (ec : c ≡ areaWord a 5 i) (et : c ≡ 
 
   pub count-live : c ≢ 0 → Tells (eqb m 1) (CountOk a t (eqb m 1) i)
   count-live z = tells-eqb m 1 (λ e. record { mark = eq-eqb m 1 e ∙ sym (live a i c ec z); count = sym ec ∙ et }) (λ C. eqb-true m 1 (C .mark ∙ live a i c ec z))
+
+-- the nodes of one occupancy word more
+pub words-more : (b a t : List ℕ) (w : ℕ) → CountsOk b a t 0 (32 * w) → CountsOk b a t (32 * w) (32 * w + 32) → CountsOk b a t 0 (32 * (w + 1))
+words-more b a t w C D = let e : 32 * w + 32 ≡ 32 * (w + 1) = omega arith in subst (CountsOk b a t 0) e (each-join 0 (32 * w) (32 * w + 32) (λ i. CountOk a t (occupiedAt b i) i) C D)
 
 -- bit j of occupancy word w is that of node 32w + j + 1
 module _ (b a t : List ℕ) (w j m : ℕ) (lt : j < 32) (in-room : 32 * w + j < room b) (e : m ≡ word b (17 + w) / 2 ^ j) where

@@ -10,14 +10,14 @@ use native.Mathlib.Omega.{arith}
 use native.Mathlib.Nat.{le-of-eq}
 use native.Mathlib.Decide.{ℕ-discrete, decLt}
 use Rattle.model.specs.Tree.{Ordered}
-use Rattle.model.specs.Heap.{Heap, Occupied, Named, sizeAt, load, tree, hits, refs, Linked, Kept, Sound}
+use Rattle.model.specs.Heap.{Heap, Occupied, Named, sizeAt, load, tree, refs, Linked, Kept, Sound}
 use Rattle.model.specs.Block.{word, room, nodeWord, occupiedAt, heap, Shaped, SoundBlock}
 use Rattle.model.proofs.Steps.{refs-unoccupied}
 use Rattle.area.specs.Answers.{Tells, Each}
 use Rattle.area.specs.Area.{areaWord, area, AreaOk, LinkTally}
 use Rattle.area.proofs.Answers.{tells-map}
 use Rattle.area.proofs.Area.{getD-past, within-area}
-use Rattle.audit.specs.Whole.{nodesOf, RootsOk, RootTally, CountOk, CountsOk}
+use Rattle.audit.specs.Whole.{nodesOf, RootsOk, RootTally, CountsOk}
 
 -- the area with the block's roots
 abbrev withRoots : List ℕ → (ℕ → ℕ) → Heap
@@ -100,9 +100,9 @@ module _ (b a : List ℕ) (B : Shaped b) (ea : a ≡ nodesOf b) where
     refs-is n = ap (λ h. refs h n) heap-is
 
     -- the tally at the end
-    tallied : (s t : List ℕ) → LinkTally a s (length a / 6) → RootTally b s t 16 → (n : ℕ) → getD t n 0 ≡ refs (heap b) n
-    unfolding RootTally LinkTally refs
-    tallied s t S T n = omega (arith, S n, T n, refs-is n)
+    tallied : (s t : List ℕ) → LinkTally a s (length a / 6) → RootTally b s t 16 → (n : ℕ) → 1 ≤ n → getD t n 0 ≡ refs (heap b) n
+    unfolding RootTally refs
+    tallied s t S T n p = omega (arith, S .at n p, T n, refs-is n)
 
   parts-sound : Parts b a → SoundBlock b
   parts-sound P = record { shaped = B; sound = subst Sound (sym (heap-is (P .marks))) sound }
@@ -178,8 +178,8 @@ module _ (b a : List ℕ) (B : Shaped b) (ea : a ≡ nodesOf b) where
   pub last-answer : (n : ℕ) (s t : List ℕ) (r : Bool) → n ≡ room b → AreaOk (area a) → RootsOk b a 16 → LinkTally a s (length a / 6) → RootTally b s t 16
       → Tells r (CountsOk b a t 0 n) → Tells r (SoundBlock b)
   last-answer n s t r e A R S T = tells-map r
-      (λ C. let M : Each 0 (room b) (λ i. occupiedAt b i ≡ area a .occupied i) = λ i p q. C i p (omega arith) .mark in parts-sound (record { area-ok = A; marks = M; roots = R; counts = λ i p q. C i p (omega arith) .count ∙ tallied M s t S T i }))
-      (λ Z i p q. let P = sound-parts Z in record { mark = P .marks i p (omega arith); count = P .counts i p (omega arith) ∙ sym (tallied (P .marks) s t S T i) })
+      (λ C. let M : Each 0 (room b) (λ i. occupiedAt b i ≡ area a .occupied i) = λ i p q. C i p (omega arith) .mark in parts-sound (record { area-ok = A; marks = M; roots = R; counts = λ i p q. C i p (omega arith) .count ∙ tallied M s t S T i p }))
+      (λ Z i p q. let P = sound-parts Z in record { mark = P .marks i p (omega arith); count = P .counts i p (omega arith) ∙ sym (tallied (P .marks) s t S T i p) })
 
 -- the part that code takes
 pub part-is : (b : List ℕ) (n : ℕ) → n ≡ room b → take (length b - (17 + n / 32)) (drop (17 + n / 32) b) ≡ nodesOf b

@@ -1,5 +1,7 @@
+-- A sound block is shaped, and a shaped one's node area is its tail from word 17 + N / 32.
 use borrow.Author.Needs.{needs}
 use native.Mathlib.Omega.{arith}
+<<<<<<< HEAD
 use Rattle.audit.proofs.audit.Statement.{statement}
 use Rattle.audit.proofs.audit.Tie as tie
 use Rattle.audit.proofs.audit.Reads as reads
@@ -7,50 +9,61 @@ use Rattle.audit.proofs.audit.Lts as lts
 use Rattle.area.proofs.words.wide.Reads as wide-reads
 use Rattle.audit.proofs.shape.Reads as shape-reads
 use Rattle.audit.proofs.whole.whole_ok.Reads as whole-ok-reads
+=======
+>>>>>>> 8c5031ae889fcd1c04386cb4433ca7bc4da58a07
 use Rattle.area.proofs.Answers.{tells-yes, tells-no}
 use Rattle.audit.proofs.Parts.{part-is}
+use Rattle.audit.proofs.audit.Statement.{statement}
+use Rattle.audit.proofs.audit.Tie as tie
 
--- src/lib.rt:45:9
 shape-requires : tie.Need-shape-requires
 shape-requires c κs = search needs
 
--- src/lib.rt:46:9
 returns : tie.Need-returns
-returns c = let sh = c .before .shape in λ S. tells-no (sh .result) (sh .ensures) (c .if1 .taken) (S .shaped)
+returns c =
+    let sh = c .before .shape in
+    λ S. tells-no (sh .result) (sh .ensures) (c .if1 .taken) (S .shaped)
 
--- src/lib.rt:48:18
 shared-slice-read-wide : tie.Need-shared-slice-read-wide
-shared-slice-read-wide c = let sh = c .before .before .shape in let B = tells-yes (sh .result) (sh .ensures) (c .before .if1 .left) in omega (arith, B .long)
+shared-slice-read-wide c =
+    let sh = c .before .before .shape in
+    let B = tells-yes (sh .result) (sh .ensures) (c .before .if1 .left) in
+    omega (arith, B .long)
 
--- src/lib.rt:48:9
 wide-requires : tie.Need-wide-requires
 wide-requires c κs = search needs
 
--- src/lib.rt:49:17
 add-start : tie.Need-add-start
 add-start c = search needs
 
--- src/lib.rt:50:24
 mul-whole-ok : tie.Need-mul-whole-ok
 mul-whole-ok c = search needs
 
--- src/lib.rt:50:24
 sub-whole-ok : tie.Need-sub-whole-ok
-sub-whole-ok c = let sh = c .before .before .before .shape in let B = tells-yes (sh .result) (sh .ensures) (c .before .before .if1 .left) in omega (arith, B .long, c .wide .ensures .0)
+sub-whole-ok c =
+    let sh = c .before .before .before .shape in
+    let B = tells-yes (sh .result) (sh .ensures) (c .before .before .if1 .left) in
+    omega (arith, B .long, c .wide .ensures .0)
 
--- src/lib.rt:50:24
 part-whole-ok-start : tie.Need-part-whole-ok-start
-part-whole-ok-start c = let sh = c .before .before .before .shape in let B = tells-yes (sh .result) (sh .ensures) (c .before .before .if1 .left) in omega (arith, B .long, c .wide .ensures .0)
+part-whole-ok-start c =
+    let sh = c .before .before .before .shape in
+    let B = tells-yes (sh .result) (sh .ensures) (c .before .before .if1 .left) in
+    omega (arith, B .long, c .wide .ensures .0)
 
--- src/lib.rt:50:24
 part-whole-ok-end : tie.Need-part-whole-ok-end
-part-whole-ok-end c = let sh = c .before .before .before .shape in let B = tells-yes (sh .result) (sh .ensures) (c .before .before .if1 .left) in omega (arith, B .long, c .wide .ensures .0)
+part-whole-ok-end c =
+    let sh = c .before .before .before .shape in
+    let B = tells-yes (sh .result) (sh .ensures) (c .before .before .if1 .left) in
+    omega (arith, B .long, c .wide .ensures .0)
 
--- src/lib.rt:50:5
 whole-ok-requires : tie.Need-whole-ok-requires
-whole-ok-requires c κs = let sh = c .before .before .before .before .shape in let B = tells-yes (sh .result) (sh .ensures) (c .before .before .before .if1 .left) in let w = c .before .wide in (B, w .ensures .0, part-is (c .before .before .before .before .before .before .args .b .now) (w .result) (w .ensures .0))
+whole-ok-requires c κs =
+    let sh = c .before .before .before .before .shape in
+    let B = tells-yes (sh .result) (sh .ensures) (c .before .before .before .if1 .left) in
+    let w = c .before .wide in
+    (B, w .ensures .0, part-is (c .before .before .before .before .before .before .args .b .now) (w .result) (w .ensures .0))
 
--- src/lib.rt:42:1
 returns-2 : tie.Need-returns-2
 returns-2 c = search needs
 

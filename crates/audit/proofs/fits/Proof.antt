@@ -1,35 +1,29 @@
-use native.Mathlib.Omega.{arith}
+-- The tests are Fitting's fields in order, and the last is the answer.
 use Prim.Native.Nat.{_+_, _*_, _/_}
-use Rattle.area.proofs.Answers.{tells-eqb}
+use native.Mathlib.Omega.{arith}
 use borrow.Author.Needs.{needs}
+use Rattle.area.proofs.Answers.{tells-eqb}
 use Rattle.audit.proofs.fits.Statement.{statement}
 use Rattle.audit.proofs.fits.Tie as tie
 
--- src/lib.rt:21:9
 returns : tie.Need-returns
 returns c = search needs
 
--- src/lib.rt:24:9
 returns-2 : tie.Need-returns-2
 returns-2 c = search needs
 
--- src/lib.rt:27:9
 returns-3 : tie.Need-returns-3
 returns-3 c = search needs
 
--- src/lib.rt:29:14
 add-result : tie.Need-add-result
 add-result c = search needs
 
--- src/lib.rt:29:28
 mul-result : tie.Need-mul-result
 mul-result c = search needs
 
--- src/lib.rt:29:14
 add-result-2 : tie.Need-add-result-2
 add-result-2 c = search needs
 
--- src/lib.rt:17:1
 returns-4 : tie.Need-returns-4
 returns-4 c =
     let a = c .before .before .before .args in

@@ -1,8 +1,9 @@
-use borrow.Author.Needs.{needs}
-use native.Mathlib.Omega.{arith}
+-- After the turn at i word 0 is n and the words below i are 0; the length is never changed.
 use mathlib.Core.Path.{_≡_, refl, sym, subst, _∙_}
 use Prim.Native.Nat.{_-_, _≤_}
 use lib.ListN.{length, length-set}
+use borrow.Author.Needs.{needs}
+use native.Mathlib.Omega.{arith}
 use Rattle.audit.specs.Fresh.{Fitting}
 use Rattle.audit.proofs.FreshBlock.{Writing, writing-first, writing-more, written}
 use Rattle.area.proofs.Answers.{tells-yes, tells-no}
@@ -15,15 +16,12 @@ Inv-loop b₀ n i₀ b i = (1 ≤ i) × (i ≤ length b) × (length b ≡ length
 abbrev μ-loop : tie.MeasureT-loop
 μ-loop b₀ n i₀ b i = length b - i
 
--- src/lib.rt:313:23
 wide-requires : tie.Need-wide-requires Inv-loop μ-loop
 wide-requires c κs = search needs
 
--- src/lib.rt:313:9
 fits-requires : tie.Need-fits-requires Inv-loop μ-loop
 fits-requires c κs = search needs
 
--- src/lib.rt:314:9
 returns : tie.Need-returns Inv-loop μ-loop
 returns c =
     let st = c .before .before .before .before in
@@ -34,7 +32,6 @@ returns c =
     let z : Fitting (length b) n → ⊥ = λ G. tells-no (f .result) (f .ensures) (c .if1 .taken) (subst (Fitting (length b)) (sym (w .ensures .0)) G) in
     record { yes = λ G. absurd (z G); no = λ _. (refl, refl) }
 
--- src/lib.rt:316:5
 slice-write-b : tie.Need-slice-write-b Inv-loop μ-loop
 slice-write-b c =
     let st = c .before .before .before .before in
@@ -45,7 +42,6 @@ slice-write-b c =
     let F : Fitting (length b) n = subst (Fitting (length b)) (w .ensures .0) (tells-yes (f .result) (f .ensures) (c .if1 .left)) in
     omega (arith, F .long)
 
--- src/lib.rt:318:5
 loop-holds : tie.Need-loop-holds Inv-loop μ-loop
 loop-holds c =
     let st = c .before .before .before .before in
@@ -61,23 +57,18 @@ loop-holds c =
       simp length-set (omega (arith, F .long, F .most)),
     )
 
--- src/lib.rt:319:9
 mul-b : tie.Need-mul-b Inv-loop μ-loop
 mul-b c = search needs
 
--- src/lib.rt:319:9
 slice-write-b-2 : tie.Need-slice-write-b-2 Inv-loop μ-loop
 slice-write-b-2 c = search needs
 
--- src/lib.rt:320:9
 add-i : tie.Need-add-i Inv-loop μ-loop
 add-i c = search needs
 
--- src/lib.rt:318:5
 loop-less : tie.Need-loop-less Inv-loop μ-loop
 loop-less c = simp length-set (omega arith)
 
--- src/lib.rt:318:5
 loop-again : tie.Need-loop-again Inv-loop μ-loop
 loop-again c =
     let st = c .before .before .before .before .before .before in
@@ -90,13 +81,11 @@ loop-again c =
       simp length-set (lp .inv .4),
     )
 
--- src/lib.rt:310:1
 same-length : tie.Need-same-length Inv-loop μ-loop
 same-length c =
     let lp = c .before .loop in
     lp .inv .2 ∙ simp length-set
 
--- src/lib.rt:310:1
 returns-2 : tie.Need-returns-2 Inv-loop μ-loop
 returns-2 c =
     let st = c .before .before .before .before .before .before in

@@ -1,29 +1,22 @@
-use lib.ListN.{length}
-use Rattle.model.specs.Block.{Shaped}
-use Rattle.audit.specs.Fresh.{Fitting}
+-- A block of no words has N = 0, which is no N; any other is shaped when its length fits word 0.
+use borrow.Author.Needs.{needs}
 use Rattle.area.proofs.Answers.{tells-map}
 use Rattle.audit.proofs.FreshBlock.{fitting-shaped, shaped-fitting}
-use borrow.Author.Needs.{needs}
 use Rattle.audit.proofs.shape.Statement.{statement}
 use Rattle.audit.proofs.shape.Tie as tie
 
--- src/lib.rt:37:9
 returns : tie.Need-returns
 returns c = search needs
 
--- src/lib.rt:39:24
 shared-slice-read-wide : tie.Need-shared-slice-read-wide
 shared-slice-read-wide c = search needs
 
--- src/lib.rt:39:19
 wide-requires : tie.Need-wide-requires
 wide-requires c κs = search needs
 
--- src/lib.rt:39:5
 fits-requires : tie.Need-fits-requires
 fits-requires c κs = search needs
 
--- src/lib.rt:33:1
 returns-2 : tie.Need-returns-2
 returns-2 c =
     let b = c .before .before .before .before .before .args .b .now in

@@ -1,51 +1,41 @@
+-- The two branches are the two sorts of nodes: six zeros, or named links and the sum of their sizes, which fits because it is taken of words as plain numbers.
+use borrow.Author.Needs.{needs}
 use Rattle.area.proofs.Answers.{tells-yes, tells-no}
 use Rattle.area.proofs.Area.{live, named-le}
 use Rattle.area.proofs.Links.{node-dead, node-live}
-use borrow.Author.Needs.{needs}
 use Rattle.area.proofs.nodes.node_ok.Statement.{statement}
 use Rattle.area.proofs.nodes.node_ok.Tie as tie
 
--- src/lib.rt:78:9
 node-word-requires : tie.Need-node-word-requires
 node-word-requires c κs = search needs
 
--- src/lib.rt:79:9
 node-word-requires-2 : tie.Need-node-word-requires-2
 node-word-requires-2 c κs = search needs
 
--- src/lib.rt:80:9
 node-word-requires-3 : tie.Need-node-word-requires-3
 node-word-requires-3 c κs = search needs
 
--- src/lib.rt:81:8
 node-word-requires-4 : tie.Need-node-word-requires-4
 node-word-requires-4 c κs = search needs
 
--- src/lib.rt:82:16
 node-word-requires-5 : tie.Need-node-word-requires-5
 node-word-requires-5 c κs = search needs
 
--- src/lib.rt:82:40
 node-word-requires-6 : tie.Need-node-word-requires-6
 node-word-requires-6 c κs = search needs
 
--- src/lib.rt:82:16
 add-result : tie.Need-add-result
 add-result c = search needs
 
--- src/lib.rt:82:16
 add-result-2 : tie.Need-add-result-2
 add-result-2 c = search needs
 
--- src/lib.rt:82:16
 add-result-3 : tie.Need-add-result-3
 add-result-3 c = search needs
 
--- src/lib.rt:82:16
 add-result-4 : tie.Need-add-result-4
 add-result-4 c = search needs
 
--- src/lib.rt:82:9
 returns : tie.Need-returns
 returns c =
     let st = c .before .before .before .before .before .before .before .before in
@@ -59,11 +49,9 @@ returns c =
     let v = c .node-word6 in
     node-dead a i (l .result) (r .result) (s .result) (t .result) (l .ensures .0) (r .ensures .0) (s .ensures .0) (t .ensures .0) (k .result) (v .result) (k .ensures .0) (v .ensures .0) (c .before .before .if1 .taken)
 
--- src/lib.rt:84:9
 named-requires : tie.Need-named-requires
 named-requires c κs = search needs
 
--- src/lib.rt:85:9
 returns-2 : tie.Need-returns-2
 returns-2 c =
     let st = c .before .before .before .before .before .before .before .before in
@@ -76,11 +64,9 @@ returns-2 c =
     let q = c .before .named in
     λ N. tells-no (q .result) (q .ensures) (c .if2 .taken) (rw (l .ensures .0) (N .left (live a i (t .result) (t .ensures .0) (c .before .before .if1 .left))))
 
--- src/lib.rt:87:9
 named-requires-2 : tie.Need-named-requires-2
 named-requires-2 c κs = search needs
 
--- src/lib.rt:88:9
 returns-3 : tie.Need-returns-3
 returns-3 c =
     let st = c .before .before .before .before .before .before .before .before .before .before in
@@ -93,7 +79,6 @@ returns-3 c =
     let q = c .before .named2 in
     λ N. tells-no (q .result) (q .ensures) (c .if3 .taken) (rw (r .ensures .0) (N .right (live a i (t .result) (t .ensures .0) (c .before .before .before .before .if1 .left))))
 
--- src/lib.rt:90:14
 size-at-requires : tie.Need-size-at-requires
 size-at-requires c κs =
     let st = c .before .before .before .before .before .before .before .before .before .before in
@@ -103,11 +88,9 @@ size-at-requires c κs =
     let nl = tells-yes (c .before .before .before .named .result) (c .before .before .before .named .ensures) (c .before .before .if2 .left) in
     (st .pre .0, named-le a n (l .result) (st .pre .0) nl)
 
--- src/lib.rt:90:10
 add-result-5 : tie.Need-add-result-5
 add-result-5 c = search needs
 
--- src/lib.rt:90:33
 size-at-requires-2 : tie.Need-size-at-requires-2
 size-at-requires-2 c κs =
     let st = c .before .before .before .before .before .before .before .before .before .before .before in
@@ -117,11 +100,9 @@ size-at-requires-2 c κs =
     let nr = tells-yes (c .before .before .named2 .result) (c .before .before .named2 .ensures) (c .before .if3 .left) in
     (st .pre .0, named-le a n (r .result) (st .pre .0) nr)
 
--- src/lib.rt:90:10
 add-result-6 : tie.Need-add-result-6
 add-result-6 c = search needs
 
--- src/lib.rt:74:1
 returns-4 : tie.Need-returns-4
 returns-4 c =
     let st = c .before .before .before .before .before .before .before .before .before .before .before .before in

@@ -1,26 +1,22 @@
+-- The end is found first, and what is then noted is that end.
 use mathlib.Core.Path.{sym, subst}
-use Rattle.area.specs.Order.{Ends}
 use borrow.Author.Needs.{needs}
+use Rattle.area.specs.Order.{Ends}
 use Rattle.area.proofs.order.end_of.Statement.{statement}
 use Rattle.area.proofs.order.end_of.Tie as tie
 
--- src/lib.rt:150:9
 find-end-requires : tie.Need-find-end-requires
 find-end-requires c κs = search needs
 
--- src/lib.rt:151:5
 note-end-requires : tie.Need-note-end-requires
 note-end-requires c κs = search needs
 
--- src/lib.rt:152:5
 wide-requires : tie.Need-wide-requires
 wide-requires c κs = search needs
 
--- src/lib.rt:146:1
 same-length : tie.Need-same-length
 same-length c = search needs
 
--- src/lib.rt:146:1
 returns : tie.Need-returns
 returns c =
     let st = c .before .before .before .before .before .before .before .before .before in (

@@ -1,9 +1,10 @@
-use native.Mathlib.Omega.{arith}
+-- What ends the walk's place ends x's links too, and the walk ends because sizes fall along links.
 use lib.ListN.{getD}
+use native.Mathlib.Omega.{arith}
 use Rattle.model.specs.Heap.{sizeAt}
 use Rattle.area.specs.Area.{area}
 use Rattle.area.proofs.Area.{within-area}
-use Rattle.area.proofs.Ends.{notes-at, EndWalk, endwalk-on, walk-falls, endwalk-stop}
+use Rattle.area.proofs.Ends.{EndWalk, endwalk-on, walk-falls, endwalk-stop}
 use Rattle.area.proofs.order.find_end.Statement.{statement}
 use Rattle.area.proofs.order.find_end.Tie as tie
 
@@ -13,13 +14,11 @@ Inv-loop a n j t x m₀ m = EndWalk a j x m
 abbrev μ-loop : tie.MeasureT-loop
 μ-loop a n j t x m₀ m = sizeAt (area a) m
 
--- src/lib.rt:120:5
 loop-holds : tie.Need-loop-holds Inv-loop μ-loop
 loop-holds c =
     let st = c .before .before in
     record { occupied = st .pre .4; up = λ e h. h }
 
--- src/lib.rt:120:11
 mul-if1 : tie.Need-mul-if1 Inv-loop μ-loop
 mul-if1 c =
     let st = c .before .before .before in
@@ -29,7 +28,6 @@ mul-if1 c =
     let w = within-area a n (lp .m) (st .pre .0) (lp .inv .occupied) in
     omega (arith, w .1, st .pre .1)
 
--- src/lib.rt:120:11
 shared-slice-read-if1 : tie.Need-shared-slice-read-if1 Inv-loop μ-loop
 shared-slice-read-if1 c =
     let st = c .before .before .before .before in
@@ -37,9 +35,8 @@ shared-slice-read-if1 c =
     let n = st .args .n in
     let lp = c .before .loop in
     let w = within-area a n (lp .m) (st .pre .0) (lp .inv .occupied) in
-    omega (arith, w .1, st .pre .1, st .pre .5)
+    omega (arith, w .1, st .pre .1, st .pre .3 .long)
 
--- src/lib.rt:121:13
 node-word-requires : tie.Need-node-word-requires Inv-loop μ-loop
 node-word-requires c κs =
     let st = c .before .before .before .before .before in
@@ -47,9 +44,8 @@ node-word-requires c κs =
     let n = st .args .n in
     let lp = c .before .before .loop in
     let w = within-area a n (lp .m) (st .pre .0) (lp .inv .occupied) in
-    (st .pre .0, w .0, w .1, st .pre .2)
+    (st .pre .0, w .0, w .1, st .pre .2 .word)
 
--- src/lib.rt:123:20
 cast-result : tie.Need-cast-result Inv-loop μ-loop
 cast-result c =
     let st = c .before .before .before .before .before .before .before in
@@ -59,7 +55,6 @@ cast-result c =
     let w = within-area a n (lp .m) (st .pre .0) (lp .inv .occupied) in
     omega (arith, w .1, st .pre .1)
 
--- src/lib.rt:123:13
 returns : tie.Need-returns Inv-loop μ-loop
 returns c =
     let st = c .before .before .before .before .before .before .before in
@@ -70,7 +65,6 @@ returns c =
     let y = c .before .node-word in
     endwalk-stop a j x (lp .m) (y .result) (lp .inv) (y .ensures .0) (c .if2 .taken)
 
--- src/lib.rt:120:5
 loop-less : tie.Need-loop-less Inv-loop μ-loop
 loop-less c =
     let st = c .before .before .before .before .before .before .before in
@@ -79,9 +73,8 @@ loop-less c =
     let x = st .args .x in
     let lp = c .before .before .before .before .loop in
     let y = c .before .node-word in
-    walk-falls a j (st .pre .3) (lp .m) (y .result) (lp .inv .occupied) (y .ensures .0)
+    walk-falls a j (st .pre .2) (lp .m) (y .result) (lp .inv .occupied) (y .ensures .0)
 
--- src/lib.rt:120:5
 loop-again : tie.Need-loop-again Inv-loop μ-loop
 loop-again c =
     let st = c .before .before .before .before .before .before .before in
@@ -90,9 +83,8 @@ loop-again c =
     let x = st .args .x in
     let lp = c .before .before .before .before .loop in
     let y = c .before .node-word in
-    endwalk-on a j (st .pre .3) x (lp .m) (y .result) (lp .inv) (y .ensures .0) (c .if2 .left)
+    endwalk-on a j (st .pre .2) x (lp .m) (y .result) (lp .inv) (y .ensures .0) (c .if2 .left)
 
--- src/lib.rt:127:5
 mul-result : tie.Need-mul-result Inv-loop μ-loop
 mul-result c =
     let st = c .before .before .before .before .before in
@@ -102,7 +94,6 @@ mul-result c =
     let w = within-area a n (lp .m) (st .pre .0) (lp .inv .occupied) in
     omega (arith, w .1, st .pre .1)
 
--- src/lib.rt:127:5
 shared-slice-read-result : tie.Need-shared-slice-read-result Inv-loop μ-loop
 shared-slice-read-result c =
     let st = c .before .before .before .before .before .before in
@@ -110,9 +101,8 @@ shared-slice-read-result c =
     let n = st .args .n in
     let lp = c .before .before .before .loop in
     let w = within-area a n (lp .m) (st .pre .0) (lp .inv .occupied) in
-    omega (arith, w .1, st .pre .1, st .pre .5)
+    omega (arith, w .1, st .pre .1, st .pre .3 .long)
 
--- src/lib.rt:115:1
 returns-2 : tie.Need-returns-2 Inv-loop μ-loop
 returns-2 c =
     let st = c .before .before .before .before .before .before in
@@ -120,7 +110,7 @@ returns-2 c =
     let j = st .args .j in
     let t = st .args .t .now in
     let lp = c .before .before .before .loop in
-    lp .inv .up (getD t (lp .m) 0) (notes-at a j t (lp .m) (st .pre .6) (c .before .if1 .left))
+    lp .inv .up (getD t (lp .m) 0) (st .pre .3 .ends (lp .m) (c .before .if1 .left))
 
 pub find-end-spec : {M : Type 1} → statement M
 find-end-spec =

@@ -1,6 +1,6 @@
+-- Every node on the way from x to e has its links end at e, so each note written is right.
+use mathlib.Core.Path.{sym, _∙_}
 use native.Mathlib.Omega.{arith}
-use mathlib.Core.Path.{_≡_, refl, _∙_}
-use lib.ListN.{length, length-set}
 use Rattle.model.specs.Heap.{sizeAt}
 use Rattle.area.specs.Area.{area}
 use Rattle.area.specs.Order.{Notes}
@@ -11,18 +11,16 @@ use Rattle.area.proofs.order.note_end.Statement.{statement}
 use Rattle.area.proofs.order.note_end.Tie as tie
 
 abbrev Inv-loop : tie.InvT-loop
-Inv-loop a n j t₀ x e m₀ t m = (length t ≡ length t₀) × NoteWalk a j e m × Notes a j t
+Inv-loop a n j t₀ x e m₀ t m = NoteWalk a j e m × Notes a j t
 
 abbrev μ-loop : tie.MeasureT-loop
 μ-loop a n j t₀ x e m₀ t m = sizeAt (area a) m
 
--- src/lib.rt:136:5
 loop-holds : tie.Need-loop-holds Inv-loop μ-loop
 loop-holds c =
     let st = c .before .before in
-    (refl, record { named = occupied-named (st .args .a .now) (st .args .x) (st .pre .4); ends = λ _. st .pre .7 }, st .pre .6)
+    (record { named = occupied-named (st .args .a .now) (st .args .x) (st .pre .4); ends = λ _. st .pre .5 }, st .pre .3)
 
--- src/lib.rt:137:12
 mul-if1 : tie.Need-mul-if1 Inv-loop μ-loop
 mul-if1 c =
     let st = c .before .before .before .before in
@@ -30,10 +28,9 @@ mul-if1 c =
     let n = st .args .n in
     let lp = c .before .loop in
     let ne = c .loop-test .taken in
-    let w = within-area a n (lp .m) (st .pre .0) (link-occupied (area a) (lp .m) (lp .inv .1 .named) ne) in
+    let w = within-area a n (lp .m) (st .pre .0) (link-occupied (area a) (lp .m) (lp .inv .0 .named) ne) in
     omega (arith, w .1, st .pre .1)
 
--- src/lib.rt:137:12
 slice-read-if1 : tie.Need-slice-read-if1 Inv-loop μ-loop
 slice-read-if1 c =
     let st = c .before .before .before .before .before in
@@ -41,18 +38,15 @@ slice-read-if1 c =
     let n = st .args .n in
     let lp = c .before .before .loop in
     let ne = c .before .loop-test .taken in
-    let w = within-area a n (lp .m) (st .pre .0) (link-occupied (area a) (lp .m) (lp .inv .1 .named) ne) in
-    omega (arith, w .1, st .pre .1, st .pre .5, lp .inv .0)
+    let w = within-area a n (lp .m) (st .pre .0) (link-occupied (area a) (lp .m) (lp .inv .0 .named) ne) in
+    omega (arith, w .1, st .pre .1, lp .inv .1 .long)
 
--- src/lib.rt:138:13
 same-length : tie.Need-same-length Inv-loop μ-loop
-same-length c = (c .before .before .before .loop) .inv .0
+same-length c = c .before .before .before .loop .inv .1 .long ∙ sym (c .before .before .before .before .before .before .pre .3 .long)
 
--- src/lib.rt:138:13
 returns : tie.Need-returns Inv-loop μ-loop
-returns c = (c .before .before .before .loop) .inv .2
+returns c = c .before .before .before .loop .inv .1
 
--- src/lib.rt:140:9
 mul-t : tie.Need-mul-t Inv-loop μ-loop
 mul-t c =
     let st = c .before .before .before .before .before .before in
@@ -60,10 +54,9 @@ mul-t c =
     let n = st .args .n in
     let lp = c .before .before .before .loop in
     let ne = c .before .before .loop-test .taken in
-    let w = within-area a n (lp .m) (st .pre .0) (link-occupied (area a) (lp .m) (lp .inv .1 .named) ne) in
+    let w = within-area a n (lp .m) (st .pre .0) (link-occupied (area a) (lp .m) (lp .inv .0 .named) ne) in
     omega (arith, w .1, st .pre .1)
 
--- src/lib.rt:140:9
 slice-write-t : tie.Need-slice-write-t Inv-loop μ-loop
 slice-write-t c =
     let st = c .before .before .before .before .before .before in
@@ -71,10 +64,9 @@ slice-write-t c =
     let n = st .args .n in
     let lp = c .before .before .before .loop in
     let ne = c .before .before .loop-test .taken in
-    let w = within-area a n (lp .m) (st .pre .0) (link-occupied (area a) (lp .m) (lp .inv .1 .named) ne) in
-    omega (arith, w .1, st .pre .1, st .pre .5, lp .inv .0)
+    let w = within-area a n (lp .m) (st .pre .0) (link-occupied (area a) (lp .m) (lp .inv .0 .named) ne) in
+    omega (arith, w .1, st .pre .1, lp .inv .1 .long)
 
--- src/lib.rt:141:9
 node-word-requires : tie.Need-node-word-requires Inv-loop μ-loop
 node-word-requires c κs =
     let st = c .before .before .before .before .before .before in
@@ -82,10 +74,9 @@ node-word-requires c κs =
     let n = st .args .n in
     let lp = c .before .before .before .loop in
     let ne = c .before .before .loop-test .taken in
-    let w = within-area a n (lp .m) (st .pre .0) (link-occupied (area a) (lp .m) (lp .inv .1 .named) ne) in
-    (st .pre .0, w .0, w .1, st .pre .2)
+    let w = within-area a n (lp .m) (st .pre .0) (link-occupied (area a) (lp .m) (lp .inv .0 .named) ne) in
+    (st .pre .0, w .0, w .1, st .pre .2 .word)
 
--- src/lib.rt:136:5
 loop-less : tie.Need-loop-less Inv-loop μ-loop
 loop-less c =
     let st = c .before .before .before .before .before .before .before in
@@ -94,9 +85,8 @@ loop-less c =
     let e = st .args .e in
     let lp = c .before .before .before .before .loop in
     let ne = c .before .before .before .loop-test .taken in
-    walk-falls a j (st .pre .3) (lp .m) (c .node-word .result) (link-occupied (area a) (lp .m) (lp .inv .1 .named) ne) (c .node-word .ensures .0)
+    walk-falls a j (st .pre .2) (lp .m) (c .node-word .result) (link-occupied (area a) (lp .m) (lp .inv .0 .named) ne) (c .node-word .ensures .0)
 
--- src/lib.rt:136:5
 loop-again : tie.Need-loop-again Inv-loop μ-loop
 loop-again c =
     let st = c .before .before .before .before .before .before .before in
@@ -106,19 +96,16 @@ loop-again c =
     let e = st .args .e in
     let lp = c .before .before .before .before .loop in
     let ne = c .before .before .before .loop-test .taken in
-    let w = within-area a n (lp .m) (st .pre .0) (link-occupied (area a) (lp .m) (lp .inv .1 .named) ne) in (
-      length-set (lp .t) (lp .m) e ∙ lp .inv .0,
-      notewalk-on a j (st .pre .3) e (lp .m) (c .node-word .result) (lp .inv .1) ne (c .node-word .ensures .0),
-      notes-more a j (lp .t) (lp .m) e (omega (arith, w .1, st .pre .1, st .pre .5, lp .inv .0)) (lp .inv .2) (lp .inv .1 .ends ne),
+    let w = within-area a n (lp .m) (st .pre .0) (link-occupied (area a) (lp .m) (lp .inv .0 .named) ne) in (
+      notewalk-on a j (st .pre .2) e (lp .m) (c .node-word .result) (lp .inv .0) ne (c .node-word .ensures .0),
+      notes-more a j (lp .t) (lp .m) e (omega (arith, w .1, st .pre .1, lp .inv .1 .long)) (lp .inv .1) (lp .inv .0 .ends ne),
     )
 
--- src/lib.rt:131:1
 same-length-2 : tie.Need-same-length-2 Inv-loop μ-loop
-same-length-2 c = (c .before .loop) .inv .0
+same-length-2 c = c .before .loop .inv .1 .long ∙ sym (c .before .before .before .before .pre .3 .long)
 
--- src/lib.rt:131:1
 returns-2 : tie.Need-returns-2 Inv-loop μ-loop
-returns-2 c = (c .before .loop) .inv .2
+returns-2 c = c .before .loop .inv .1
 
 pub note-end-spec : {M : Type 1} → statement M
 note-end-spec =

@@ -1,49 +1,82 @@
+-- A node without a count is not occupied and needs no order; of any other both sides are tested.
 use borrow.Author.Needs.{needs}
 use native.Mathlib.Omega.{arith}
+<<<<<<< HEAD
 use Rattle.area.proofs.order.order_ok.Statement.{statement}
 use Rattle.area.proofs.order.order_ok.Tie as tie
 use Rattle.area.proofs.order.order_ok.Reads as reads
 use Rattle.area.proofs.order.order_ok.Lts as lts
 use Rattle.area.proofs.order.side_ok.Reads as side-ok-reads
 use Rattle.area.proofs.words.node_word.Reads as node-word-reads
+=======
+>>>>>>> 8c5031ae889fcd1c04386cb4433ca7bc4da58a07
 use Rattle.area.proofs.Answers.{tells-yes, tells-no, tells-map}
 use Rattle.area.proofs.Area.{live, not-live}
+use Rattle.area.proofs.order.order_ok.Statement.{statement}
+use Rattle.area.proofs.order.order_ok.Tie as tie
 
--- src/order.rt:76:8
 node-word-requires : tie.Need-node-word-requires
 node-word-requires c κs = search needs
 
--- src/order.rt:77:9
 returns : tie.Need-returns
-returns c = let st = c .before .before .before .before .before in let a = st .args .a .now in let i = st .args .i in let ct = c .before .node-word in let z = not-live a i (ct .result) (ct .ensures .0) (c .if1 .taken) in (record { left = λ o. absurd (z o); right = λ o. absurd (z o) }, st .pre .6, st .pre .8)
+returns c =
+    let st = c .before .before .before .before .before in
+    let a = st .args .a .now in
+    let i = st .args .i in
+    let ct = c .before .node-word in
+    let z = not-live a i (ct .result) (ct .ensures .0) (c .if1 .taken) in
+    (record { left = λ o. absurd (z o); right = λ o. absurd (z o) }, st .pre .5, st .pre .6)
 
--- src/order.rt:79:9
 side-ok-requires : tie.Need-side-ok-requires
-side-ok-requires c κs = let st = c .before .before .before .before .before .before in let a = st .args .a .now in let i = st .args .i in let ct = c .before .before .node-word in let o = live a i (ct .result) (ct .ensures .0) (c .before .if1 .left) in (st .pre .0, st .pre .1, omega arith, omega arith, st .pre .2, o, st .pre .5, st .pre .6)
+side-ok-requires c κs =
+    let st = c .before .before .before .before .before .before in
+    let a = st .args .a .now in
+    let i = st .args .i in
+    let ct = c .before .before .node-word in
+    let o = live a i (ct .result) (ct .ensures .0) (c .before .if1 .left) in
+    (st .pre .0, st .pre .1, omega arith, omega arith, st .pre .2, o, st .pre .5)
 
--- src/order.rt:80:9
 same-length : tie.Need-same-length
 same-length c = search needs
 
--- src/order.rt:80:9
 returns-2 : tie.Need-returns-2
-returns-2 c = let st = c .before .before .before .before .before .before .before .before .before .before in let a = st .args .a .now in let i = st .args .i in let ct = c .before .before .before .before .before .before .node-word in let o = live a i (ct .result) (ct .ensures .0) (c .before .before .before .before .before .if1 .left) in let lo = c .before .before .before .side-ok in (λ O. tells-no (lo .result) (lo .ensures .0) (c .if2 .taken) (O .left o), lo .ensures .1, st .pre .8)
+returns-2 c =
+    let st = c .before .before .before .before .before .before .before .before .before .before in
+    let a = st .args .a .now in
+    let i = st .args .i in
+    let ct = c .before .before .before .before .before .before .node-word in
+    let o = live a i (ct .result) (ct .ensures .0) (c .before .before .before .before .before .if1 .left) in
+    let lo = c .before .before .before .side-ok in
+    (λ O. tells-no (lo .result) (lo .ensures .0) (c .if2 .taken) (O .left o), lo .ensures .1, st .pre .6)
 
--- src/order.rt:82:5
 side-ok-requires-2 : tie.Need-side-ok-requires-2
-side-ok-requires-2 c κs = let st = c .before .before .before .before .before .before .before .before .before .before .before in let a = st .args .a .now in let i = st .args .i in let ct = c .before .before .before .before .before .before .before .node-word in let o = live a i (ct .result) (ct .ensures .0) (c .before .before .before .before .before .before .if1 .left) in (st .pre .0, st .pre .1, omega arith, omega arith, st .pre .2, o, st .pre .7, st .pre .8)
+side-ok-requires-2 c κs =
+    let st = c .before .before .before .before .before .before .before .before .before .before .before in
+    let a = st .args .a .now in
+    let i = st .args .i in
+    let ct = c .before .before .before .before .before .before .before .node-word in
+    let o = live a i (ct .result) (ct .ensures .0) (c .before .before .before .before .before .before .if1 .left) in
+    (st .pre .0, st .pre .1, omega arith, omega arith, st .pre .2, o, st .pre .6)
 
--- src/order.rt:72:1
 same-length-2 : tie.Need-same-length-2
 same-length-2 c = search needs
 
--- src/order.rt:72:1
 same-length-3 : tie.Need-same-length-3
 same-length-3 c = search needs
 
--- src/order.rt:72:1
 returns-3 : tie.Need-returns-3
-returns-3 c = let st = c .before .before .before .before .before .before .before .before .before .before .before .before .before .before in let a = st .args .a .now in let i = st .args .i in let ct = c .before .before .before .before .before .before .before .before .before .before .node-word in let o = live a i (ct .result) (ct .ensures .0) (c .before .before .before .before .before .before .before .before .before .if1 .left) in let lo = c .before .before .before .before .before .before .before .side-ok in let ro = c .before .before .side-ok2 in (tells-map (ro .result) (λ ok. record { left = λ _. tells-yes (lo .result) (lo .ensures .0) (c .before .before .before .before .if2 .left); right = λ _. ok }) (λ O. O .right o) (ro .ensures .0), lo .ensures .1, ro .ensures .1)
+returns-3 c =
+    let st = c .before .before .before .before .before .before .before .before .before .before .before .before .before .before in
+    let a = st .args .a .now in
+    let i = st .args .i in
+    let ct = c .before .before .before .before .before .before .before .before .before .before .node-word in
+    let o = live a i (ct .result) (ct .ensures .0) (c .before .before .before .before .before .before .before .before .before .if1 .left) in
+    let lo = c .before .before .before .before .before .before .before .side-ok in
+    let ro = c .before .before .side-ok2 in (
+      tells-map (ro .result) (λ ok. record { left = λ _. tells-yes (lo .result) (lo .ensures .0) (c .before .before .before .before .if2 .left); right = λ _. ok }) (λ O. O .right o) (ro .ensures .0),
+      lo .ensures .1,
+      ro .ensures .1,
+    )
 
 pub order-ok-spec : {M : Type 1} → statement M
 order-ok-spec =

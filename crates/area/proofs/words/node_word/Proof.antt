@@ -1,34 +1,28 @@
+-- Node i's words begin at 6 (i - 1), which lies in the area because i is at most n.
 use mathlib.Core.Path.{sym, _∙_}
-use Rattle.area.proofs.Area.{areaWord-at}
 use borrow.Author.Needs.{needs}
+use Rattle.area.proofs.Area.{areaWord-at}
 use Rattle.area.proofs.words.node_word.Statement.{statement}
 use Rattle.area.proofs.words.node_word.Tie as tie
 
--- src/lib.rt:41:13
 mul-k : tie.Need-mul-k
 mul-k c = search needs
 
--- src/lib.rt:41:13
 sub-k : tie.Need-sub-k
 sub-k c = search needs
 
--- src/lib.rt:41:13
 add-k : tie.Need-add-k
 add-k c = search needs
 
--- src/lib.rt:42:10
 mul-wide : tie.Need-mul-wide
 mul-wide c = search needs
 
--- src/lib.rt:42:10
 shared-slice-read-wide : tie.Need-shared-slice-read-wide
 shared-slice-read-wide c = search needs
 
--- src/lib.rt:42:5
 wide-requires : tie.Need-wide-requires
 wide-requires c κs = search needs
 
--- src/lib.rt:37:1
 returns : tie.Need-returns
 returns c =
     let st = c .before .before .before in

@@ -1,18 +1,16 @@
+-- A link of 0 stands for size 0, any other for its node's size word.
 use mathlib.Core.Path.{sym, _∙_}
-use Rattle.area.proofs.Area.{sizeAt-some}
 use borrow.Author.Needs.{needs}
+use Rattle.area.proofs.Area.{sizeAt-some}
 use Rattle.area.proofs.words.size_at.Statement.{statement}
 use Rattle.area.proofs.words.size_at.Tie as tie
 
--- src/lib.rt:68:9
 returns : tie.Need-returns
 returns c = search needs
 
--- src/lib.rt:70:5
 node-word-requires : tie.Need-node-word-requires
 node-word-requires c κs = search needs
 
--- src/lib.rt:63:1
 returns-2 : tie.Need-returns-2
 returns-2 c =
     let st = c .before .before .before in

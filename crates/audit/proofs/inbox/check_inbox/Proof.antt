@@ -1,4 +1,6 @@
+-- The two tests come in document 01's order, and each is exact.
 use borrow.Author.Needs.{needs}
+<<<<<<< HEAD
 use native.Mathlib.Omega.{arith}
 use Rattle.audit.proofs.inbox.check_inbox.Statement.{statement}
 use Rattle.audit.proofs.inbox.check_inbox.Tie as tie
@@ -6,28 +8,35 @@ use Rattle.audit.proofs.inbox.check_inbox.Reads as reads
 use Rattle.audit.proofs.inbox.check_inbox.Lts as lts
 use Rattle.audit.proofs.inbox.inbox_shape.Reads as inbox-shape-reads
 use Rattle.audit.proofs.inbox.inbox_sound.Reads as inbox-sound-reads
+=======
+>>>>>>> 8c5031ae889fcd1c04386cb4433ca7bc4da58a07
 use Rattle.area.proofs.Answers.{tells-yes, tells-no}
 use Rattle.audit.proofs.Verdicts.{verdict-shape, verdict-damaged, verdict-sound}
+use Rattle.audit.proofs.inbox.check_inbox.Statement.{statement}
+use Rattle.audit.proofs.inbox.check_inbox.Tie as tie
 
--- src/inbox.rt:68:9
 inbox-shape-requires : tie.Need-inbox-shape-requires
 inbox-shape-requires c κs = search needs
 
--- src/inbox.rt:69:9
 returns : tie.Need-returns
-returns c = let sh = c .before .inbox-shape in verdict-shape (tells-no (sh .result) (sh .ensures) (c .if1 .taken))
+returns c =
+    let sh = c .before .inbox-shape in
+    verdict-shape (tells-no (sh .result) (sh .ensures) (c .if1 .taken))
 
--- src/inbox.rt:71:9
 inbox-sound-requires : tie.Need-inbox-sound-requires
 inbox-sound-requires c κs = search needs
 
--- src/inbox.rt:72:9
 returns-2 : tie.Need-returns-2
-returns-2 c = let sh = c .before .before .before .inbox-shape in let so = c .before .inbox-sound in verdict-damaged (tells-yes (sh .result) (sh .ensures) (c .before .before .if1 .left)) (tells-no (so .result) (so .ensures) (c .if2 .taken))
+returns-2 c =
+    let sh = c .before .before .before .inbox-shape in
+    let so = c .before .inbox-sound in
+    verdict-damaged (tells-yes (sh .result) (sh .ensures) (c .before .before .if1 .left)) (tells-no (so .result) (so .ensures) (c .if2 .taken))
 
--- src/inbox.rt:65:1
 returns-3 : tie.Need-returns-3
-returns-3 c = let sh = c .before .before .before .inbox-shape in let so = c .before .inbox-sound in verdict-sound (tells-yes (sh .result) (sh .ensures) (c .before .before .if1 .left)) (tells-yes (so .result) (so .ensures) (c .if2 .left))
+returns-3 c =
+    let sh = c .before .before .before .inbox-shape in
+    let so = c .before .inbox-sound in
+    verdict-sound (tells-yes (sh .result) (sh .ensures) (c .before .before .if1 .left)) (tells-yes (so .result) (so .ensures) (c .if2 .left))
 
 pub check-inbox-spec : {M : Type 1} → statement M
 check-inbox-spec =

@@ -1,37 +1,30 @@
-use Rattle.audit.proofs.Highs.{word-clear}
+-- The bits at or above c are those from place k on, and none is set exactly when the word shifted right by k is 0.
 use borrow.Author.Needs.{needs}
+use Rattle.audit.proofs.Highs.{word-clear}
 use Rattle.audit.proofs.inbox.word_clear.Statement.{statement}
 use Rattle.audit.proofs.inbox.word_clear.Tie as tie
 
--- src/lib.rt:33:22
 mul-below : tie.Need-mul-below
 mul-below c = search needs
 
--- src/lib.rt:33:9
 below-requires : tie.Need-below-requires
 below-requires c κs = search needs
 
--- src/lib.rt:34:12
 add-wide : tie.Need-add-wide
 add-wide c = search needs
 
--- src/lib.rt:34:10
 mul-wide : tie.Need-mul-wide
 mul-wide c = search needs
 
--- src/lib.rt:34:10
 shared-slice-read-wide : tie.Need-shared-slice-read-wide
 shared-slice-read-wide c = search needs
 
--- src/lib.rt:34:5
 wide-requires : tie.Need-wide-requires
 wide-requires c κs = search needs
 
--- src/lib.rt:34:5
 shr-result : tie.Need-shr-result
 shr-result c = search needs
 
--- src/lib.rt:29:1
 returns : tie.Need-returns
 returns c =
     let st = c .before .before .before .before in

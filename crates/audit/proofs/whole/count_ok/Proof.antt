@@ -1,7 +1,11 @@
+-- The count is the tally's, and then the bit must be 0 or 1 as the count is 0 or not.
+use mathlib.Core.Path.{_∙_}
 use borrow.Author.Needs.{needs}
 use native.Mathlib.Omega.{arith}
+use Rattle.audit.proofs.Marks.{count-dead, count-live}
 use Rattle.audit.proofs.whole.count_ok.Statement.{statement}
 use Rattle.audit.proofs.whole.count_ok.Tie as tie
+<<<<<<< HEAD
 use Rattle.audit.proofs.whole.count_ok.Reads as reads
 use Rattle.audit.proofs.whole.count_ok.Lts as lts
 use Rattle.area.proofs.words.node_word.Reads as node-word-reads
@@ -10,32 +14,40 @@ use mathlib.Core.Path.{sym, _∙_}
 use Rattle.audit.proofs.Marks.{count-dead, count-live}
 
 -- src/whole.rt:39:9
+=======
+
+>>>>>>> 8c5031ae889fcd1c04386cb4433ca7bc4da58a07
 node-word-requires : tie.Need-node-word-requires
 node-word-requires c κs = search needs
 
--- src/whole.rt:40:18
 mul-wide : tie.Need-mul-wide
 mul-wide c = search needs
 
--- src/whole.rt:40:18
 shared-slice-read-wide : tie.Need-shared-slice-read-wide
 shared-slice-read-wide c = search needs
 
--- src/whole.rt:40:13
 wide-requires : tie.Need-wide-requires
 wide-requires c κs = search needs
 
--- src/whole.rt:41:9
 returns : tie.Need-returns
-returns c = let st = c .before .before .before .before .before .before in let k = c .before .before .before .node-word in let w = c .before .wide in λ C. c .if1 .taken (k .ensures .0 ∙ C .count ∙ sym (w .ensures .0))
+returns c =
+    let k = c .before .before .before .node-word in
+    let w = c .before .wide in
+    λ C. absurd (omega (arith, c .if1 .taken, k .ensures .0, C .count, w .ensures .0))
 
--- src/whole.rt:44:9
 returns-2 : tie.Need-returns-2
-returns-2 c = let st = c .before .before .before .before .before .before .before in let k = c .before .before .before .before .node-word in let w = c .before .before .wide in count-dead (st .args .a .now) (st .args .t .now) (st .args .i) (k .result) (st .args .m) (k .ensures .0) (c .before .if1 .left ∙ w .ensures .0) (st .pre .4) (c .if2 .taken)
+returns-2 c =
+    let st = c .before .before .before .before .before .before .before in
+    let k = c .before .before .before .before .node-word in
+    let w = c .before .before .wide in
+    count-dead (st .args .a .now) (st .args .t .now) (st .args .i) (k .result) (st .args .m) (k .ensures .0) (c .before .if1 .left ∙ w .ensures .0) (st .pre .4) (c .if2 .taken)
 
--- src/whole.rt:35:1
 returns-3 : tie.Need-returns-3
-returns-3 c = let st = c .before .before .before .before .before .before .before in let k = c .before .before .before .before .node-word in let w = c .before .before .wide in count-live (st .args .a .now) (st .args .t .now) (st .args .i) (k .result) (st .args .m) (k .ensures .0) (c .before .if1 .left ∙ w .ensures .0) (st .pre .4) (c .if2 .left)
+returns-3 c =
+    let st = c .before .before .before .before .before .before .before in
+    let k = c .before .before .before .before .node-word in
+    let w = c .before .before .wide in
+    count-live (st .args .a .now) (st .args .t .now) (st .args .i) (k .result) (st .args .m) (k .ensures .0) (c .before .if1 .left ∙ w .ensures .0) (st .pre .4) (c .if2 .left)
 
 pub count-ok-spec : {M : Type 1} → statement M
 count-ok-spec =

@@ -1,3 +1,4 @@
+<<<<<<< HEAD
 use borrow.Author.Needs.{needs}
 use native.Mathlib.Omega.{arith}
 use Rattle.audit.proofs.whole.counts_ok.Statement.{statement}
@@ -5,11 +6,19 @@ use Rattle.audit.proofs.whole.counts_ok.Tie as tie
 use Rattle.audit.proofs.whole.counts_ok.Reads as reads
 use Rattle.audit.proofs.whole.counts_ok.Lts as lts
 use Rattle.audit.proofs.whole.word_ok.Reads as word-ok-reads
+=======
+-- After w turns the nodes of the first w occupancy words have passed, and N is a multiple of 32.
+>>>>>>> 8c5031ae889fcd1c04386cb4433ca7bc4da58a07
 use mathlib.Core.Path.{_≡_, ap, subst, _∙_}
 use Prim.Native.Nat.{_+_, _-_, _*_, _/_, _%_, _≤_}
+use borrow.Author.Needs.{needs}
+use native.Mathlib.Omega.{arith}
 use Rattle.model.specs.Block.{occupiedAt}
-use Rattle.area.proofs.Answers.{tells-yes, tells-no, each-none, each-join}
+use Rattle.area.proofs.Answers.{tells-yes, tells-no, each-none}
+use Rattle.audit.proofs.Marks.{words-more}
 use Rattle.audit.specs.Whole.{CountOk, CountsOk}
+use Rattle.audit.proofs.whole.counts_ok.Statement.{statement}
+use Rattle.audit.proofs.whole.counts_ok.Tie as tie
 
 abbrev Inv-loop : tie.InvT-loop
 Inv-loop b a n t w₀ w = (w ≤ n / 32) × CountsOk b a t 0 (32 * w)
@@ -17,33 +26,50 @@ Inv-loop b a n t w₀ w = (w ≤ n / 32) × CountsOk b a t 0 (32 * w)
 abbrev μ-loop : tie.MeasureT-loop
 μ-loop b a n t w₀ w = n / 32 - w
 
--- src/whole.rt:72:5
 loop-holds : tie.Need-loop-holds Inv-loop μ-loop
-loop-holds c = (omega arith, each-none 0 (λ i. CountOk (c .before .before .before .args .a .now) (c .before .before .before .args .t .now) (occupiedAt (c .before .before .before .args .b .now) i) i))
+loop-holds c = (
+  omega arith,
+  each-none 0 (λ i. CountOk (c .before .before .before .args .a .now) (c .before .before .before .args .t .now) (occupiedAt (c .before .before .before .args .b .now) i) i),
+)
 
--- src/whole.rt:73:13
 word-ok-requires : tie.Need-word-ok-requires Inv-loop μ-loop
-word-ok-requires c κs = let st = c .before .before .before .before .before in let b = st .args .b .now in let a = st .args .a .now in let t = st .args .t .now in let n = st .args .n in let lp = c .before .loop in (st .pre .0, st .pre .1, st .pre .2, st .pre .3, c .loop-test .taken)
+word-ok-requires c κs =
+    let st = c .before .before .before .before .before in
+    (st .pre .0, st .pre .1, st .pre .2, st .pre .3, c .loop-test .taken)
 
--- src/whole.rt:74:13
 returns : tie.Need-returns Inv-loop μ-loop
-returns c = let st = c .before .before .before .before .before .before .before in let b = st .args .b .now in let a = st .args .a .now in let t = st .args .t .now in let n = st .args .n in let lp = c .before .before .before .loop in let k = c .before .word-ok in λ all. tells-no (k .result) (k .ensures) (c .if1 .taken) (λ i p q. all i (omega arith) (omega arith))
+returns c =
+    let st = c .before .before .before .before .before .before .before in
+    let lp = c .before .before .before .loop in
+    let k = c .before .word-ok in
+    λ all. tells-no {P = CountsOk (st .args .b .now) (st .args .a .now) (st .args .t .now) (32 * lp .w) (32 * lp .w + 32)} (k .result) (k .ensures) (c .if1 .taken) (λ i p q. all i (omega arith) (omega arith))
 
--- src/whole.rt:76:9
 add-w : tie.Need-add-w Inv-loop μ-loop
 add-w c = search needs
 
--- src/whole.rt:72:5
 loop-less : tie.Need-loop-less Inv-loop μ-loop
 loop-less c = search needs
 
--- src/whole.rt:72:5
 loop-again : tie.Need-loop-again Inv-loop μ-loop
-loop-again c = let st = c .before .before .before .before .before .before .before in let b = st .args .b .now in let a = st .args .a .now in let t = st .args .t .now in let n = st .args .n in let lp = c .before .before .before .loop in let k = c .before .word-ok in let e : 32 * lp .w + 32 ≡ 32 * (lp .w + 1) = omega arith in (omega arith, subst (CountsOk b a t 0) e (each-join 0 (32 * lp .w) (32 * lp .w + 32) (λ i. CountOk a t (occupiedAt b i) i) (lp .inv .1) (tells-yes (k .result) (k .ensures) (c .if1 .left))))
+loop-again c =
+    let st = c .before .before .before .before .before .before .before in
+    let b = st .args .b .now in
+    let a = st .args .a .now in
+    let t = st .args .t .now in
+    let lp = c .before .before .before .loop in
+    let k = c .before .word-ok in
+    (omega arith, words-more b a t (lp .w) (lp .inv .1) (tells-yes {P = CountsOk b a t (32 * lp .w) (32 * lp .w + 32)} (k .result) (k .ensures) (c .if1 .left)))
 
--- src/whole.rt:67:1
 returns-2 : tie.Need-returns-2 Inv-loop μ-loop
-returns-2 c = let st = c .before .before .before .before .before in let b = st .args .b .now in let a = st .args .a .now in let t = st .args .t .now in let n = st .args .n in let lp = c .before .loop in let e : 32 * lp .w ≡ n = omega (arith, ap (λ x. x % 32) (st .pre .1) ∙ st .pre .0 .whole, lp .inv .0) in subst (CountsOk b a t 0) e (lp .inv .1)
+returns-2 c =
+    let st = c .before .before .before .before .before in
+    let b = st .args .b .now in
+    let a = st .args .a .now in
+    let t = st .args .t .now in
+    let n = st .args .n in
+    let lp = c .before .loop in
+    let e : 32 * lp .w ≡ n = omega (arith, ap (λ x. x % 32) (st .pre .1) ∙ st .pre .0 .whole, lp .inv .0) in
+    subst (CountsOk b a t 0) e (lp .inv .1)
 
 pub counts-ok-spec : {M : Type 1} → statement M
 counts-ok-spec =
