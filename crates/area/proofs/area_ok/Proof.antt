@@ -1,16 +1,4 @@
-<<<<<<< HEAD
-use borrow.Author.Needs.{needs}
-use native.Mathlib.Omega.{arith}
-use Rattle.area.proofs.area_ok.Statement.{statement}
-use Rattle.area.proofs.area_ok.Tie as tie
-use Rattle.area.proofs.area_ok.Reads as reads
-use Rattle.area.proofs.area_ok.Lts as lts
-use Rattle.area.proofs.nodes.nodes_ok.Reads as nodes-ok-reads
-use Rattle.area.proofs.order.orders_ok.Reads as orders-ok-reads
-use borrow.Author.Tests.{not-false}
-=======
 -- Nodes that all pass make the area linked, so that walks end, and then the order test at each node orders every tree.
->>>>>>> 8c5031ae889fcd1c04386cb4433ca7bc4da58a07
 use mathlib.Core.Path.{sym}
 use mathlib.Core.Bool.{true≢false}
 use Prim.Native.Nat.{_/_}

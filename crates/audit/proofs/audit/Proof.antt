@@ -1,16 +1,6 @@
 -- A sound block is shaped, and a shaped one's node area is its tail from word 17 + N / 32.
 use borrow.Author.Needs.{needs}
 use native.Mathlib.Omega.{arith}
-<<<<<<< HEAD
-use Rattle.audit.proofs.audit.Statement.{statement}
-use Rattle.audit.proofs.audit.Tie as tie
-use Rattle.audit.proofs.audit.Reads as reads
-use Rattle.audit.proofs.audit.Lts as lts
-use Rattle.area.proofs.words.wide.Reads as wide-reads
-use Rattle.audit.proofs.shape.Reads as shape-reads
-use Rattle.audit.proofs.whole.whole_ok.Reads as whole-ok-reads
-=======
->>>>>>> 8c5031ae889fcd1c04386cb4433ca7bc4da58a07
 use Rattle.area.proofs.Answers.{tells-yes, tells-no}
 use Rattle.audit.proofs.Parts.{part-is}
 use Rattle.audit.proofs.audit.Statement.{statement}

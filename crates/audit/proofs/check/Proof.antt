@@ -1,15 +1,5 @@
 -- The two tests come in document 01's order, and each is exact.
 use borrow.Author.Needs.{needs}
-<<<<<<< HEAD
-use native.Mathlib.Omega.{arith}
-use Rattle.audit.proofs.check.Statement.{statement}
-use Rattle.audit.proofs.check.Tie as tie
-use Rattle.audit.proofs.check.Reads as reads
-use Rattle.audit.proofs.check.Lts as lts
-use Rattle.audit.proofs.audit.Reads as audit-reads
-use Rattle.audit.proofs.shape.Reads as shape-reads
-=======
->>>>>>> 8c5031ae889fcd1c04386cb4433ca7bc4da58a07
 use Rattle.area.proofs.Answers.{tells-yes, tells-no}
 use Rattle.audit.proofs.Verdicts.{verdict-shape, verdict-damaged, verdict-sound}
 use Rattle.audit.proofs.check.Statement.{statement}

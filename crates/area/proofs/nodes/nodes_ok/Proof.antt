@@ -5,20 +5,6 @@ use Prim.Native.Nat.{_+_, _-_, _*_, _≤_}
 use lib.ListN.{length}
 use borrow.Author.Needs.{needs}
 use native.Mathlib.Omega.{arith}
-<<<<<<< HEAD
-use Rattle.area.proofs.nodes.nodes_ok.Statement.{statement}
-use Rattle.area.proofs.nodes.nodes_ok.Tie as tie
-use Rattle.area.proofs.nodes.nodes_ok.Reads as reads
-use Rattle.area.proofs.nodes.nodes_ok.Lts as lts
-use Rattle.area.proofs.nodes.node_ok.Reads as node-ok-reads
-use Rattle.area.proofs.words.bump.Reads as bump-reads
-use Rattle.area.proofs.words.node_word.Reads as node-word-reads
-use mathlib.Core.Path.{_≡_, sym, subst, refl}
-use mathlib.Core.Bool.{true≢false}
-use Prim.Native.Nat.{_+_, _-_, _*_, _≤_, _<_}
-use lib.ListN.{length}
-=======
->>>>>>> 8c5031ae889fcd1c04386cb4433ca7bc4da58a07
 use Rattle.area.specs.Answers.{Each}
 use Rattle.area.specs.Area.{area, NodeOk, LinkTally}
 use Rattle.area.proofs.Answers.{tells-yes, tells-no, each-none, each-more}

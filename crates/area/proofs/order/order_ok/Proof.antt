@@ -1,15 +1,6 @@
 -- A node without a count is not occupied and needs no order; of any other both sides are tested.
 use borrow.Author.Needs.{needs}
 use native.Mathlib.Omega.{arith}
-<<<<<<< HEAD
-use Rattle.area.proofs.order.order_ok.Statement.{statement}
-use Rattle.area.proofs.order.order_ok.Tie as tie
-use Rattle.area.proofs.order.order_ok.Reads as reads
-use Rattle.area.proofs.order.order_ok.Lts as lts
-use Rattle.area.proofs.order.side_ok.Reads as side-ok-reads
-use Rattle.area.proofs.words.node_word.Reads as node-word-reads
-=======
->>>>>>> 8c5031ae889fcd1c04386cb4433ca7bc4da58a07
 use Rattle.area.proofs.Answers.{tells-yes, tells-no, tells-map}
 use Rattle.area.proofs.Area.{live, not-live}
 use Rattle.area.proofs.order.order_ok.Statement.{statement}

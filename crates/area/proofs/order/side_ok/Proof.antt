@@ -1,15 +1,4 @@
-<<<<<<< HEAD
-use borrow.Author.Needs.{needs}
-use native.Mathlib.Omega.{arith}
-use Rattle.area.proofs.order.side_ok.Statement.{statement}
-use Rattle.area.proofs.order.side_ok.Tie as tie
-use Rattle.area.proofs.order.side_ok.Reads as reads
-use Rattle.area.proofs.order.side_ok.Lts as lts
-use Rattle.area.proofs.order.end_of.Reads as end-of-reads
-use Rattle.area.proofs.words.node_word.Reads as node-word-reads
-=======
 -- The end of the inner links is the side's nearest key, and links end at one node only, so one comparison decides.
->>>>>>> 8c5031ae889fcd1c04386cb4433ca7bc4da58a07
 use mathlib.Core.Path.{sym, subst, _∙_}
 use Prim.Native.Nat.{_-_}
 use borrow.Author.Needs.{needs}

@@ -1,15 +1,5 @@
 -- The two tests come in document 01's order, and each is exact.
 use borrow.Author.Needs.{needs}
-<<<<<<< HEAD
-use native.Mathlib.Omega.{arith}
-use Rattle.audit.proofs.inbox.check_inbox.Statement.{statement}
-use Rattle.audit.proofs.inbox.check_inbox.Tie as tie
-use Rattle.audit.proofs.inbox.check_inbox.Reads as reads
-use Rattle.audit.proofs.inbox.check_inbox.Lts as lts
-use Rattle.audit.proofs.inbox.inbox_shape.Reads as inbox-shape-reads
-use Rattle.audit.proofs.inbox.inbox_sound.Reads as inbox-sound-reads
-=======
->>>>>>> 8c5031ae889fcd1c04386cb4433ca7bc4da58a07
 use Rattle.area.proofs.Answers.{tells-yes, tells-no}
 use Rattle.audit.proofs.Verdicts.{verdict-shape, verdict-damaged, verdict-sound}
 use Rattle.audit.proofs.inbox.check_inbox.Statement.{statement}

@@ -1,13 +1,4 @@
-<<<<<<< HEAD
-use borrow.Author.Needs.{needs}
-use native.Mathlib.Omega.{arith}
-use Rattle.audit.proofs.inbox.inbox_shape.Statement.{statement}
-use Rattle.audit.proofs.inbox.inbox_shape.Tie as tie
-use Rattle.audit.proofs.inbox.inbox_shape.Reads as reads
-use Rattle.audit.proofs.inbox.inbox_shape.Lts as lts
-=======
 -- The answer is the test itself.
->>>>>>> 8c5031ae889fcd1c04386cb4433ca7bc4da58a07
 use lib.ListN.{length}
 use Rattle.area.proofs.Answers.{tells-eqb}
 use Rattle.audit.proofs.inbox.inbox_shape.Statement.{statement}

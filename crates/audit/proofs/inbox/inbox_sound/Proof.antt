@@ -1,16 +1,4 @@
-<<<<<<< HEAD
-use borrow.Author.Needs.{needs}
-use native.Mathlib.Omega.{arith}
-use Rattle.audit.proofs.inbox.inbox_sound.Statement.{statement}
-use Rattle.audit.proofs.inbox.inbox_sound.Tie as tie
-use Rattle.audit.proofs.inbox.inbox_sound.Reads as reads
-use Rattle.audit.proofs.inbox.inbox_sound.Lts as lts
-use Rattle.area.proofs.words.wide.Reads as wide-reads
-use Rattle.audit.proofs.inbox.inbox_shape.Reads as inbox-shape-reads
-use Rattle.audit.proofs.inbox.word_clear.Reads as word-clear-reads
-=======
 -- After w turns the first w heard words have no bit at or above the count, and 128 words hold all 4,096 bits.
->>>>>>> 8c5031ae889fcd1c04386cb4433ca7bc4da58a07
 use mathlib.Core.Path.{_≡_, subst}
 use Prim.Native.Nat.{ℕ, _-_, _≤_, _<_}
 use borrow.Author.Needs.{needs}

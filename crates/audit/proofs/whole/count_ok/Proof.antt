@@ -5,18 +5,7 @@ use native.Mathlib.Omega.{arith}
 use Rattle.audit.proofs.Marks.{count-dead, count-live}
 use Rattle.audit.proofs.whole.count_ok.Statement.{statement}
 use Rattle.audit.proofs.whole.count_ok.Tie as tie
-<<<<<<< HEAD
-use Rattle.audit.proofs.whole.count_ok.Reads as reads
-use Rattle.audit.proofs.whole.count_ok.Lts as lts
-use Rattle.area.proofs.words.node_word.Reads as node-word-reads
-use Rattle.area.proofs.words.wide.Reads as wide-reads
-use mathlib.Core.Path.{sym, _∙_}
-use Rattle.audit.proofs.Marks.{count-dead, count-live}
 
--- src/whole.rt:39:9
-=======
-
->>>>>>> 8c5031ae889fcd1c04386cb4433ca7bc4da58a07
 node-word-requires : tie.Need-node-word-requires
 node-word-requires c κs = search needs
 

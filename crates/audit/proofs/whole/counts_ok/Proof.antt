@@ -1,14 +1,4 @@
-<<<<<<< HEAD
-use borrow.Author.Needs.{needs}
-use native.Mathlib.Omega.{arith}
-use Rattle.audit.proofs.whole.counts_ok.Statement.{statement}
-use Rattle.audit.proofs.whole.counts_ok.Tie as tie
-use Rattle.audit.proofs.whole.counts_ok.Reads as reads
-use Rattle.audit.proofs.whole.counts_ok.Lts as lts
-use Rattle.audit.proofs.whole.word_ok.Reads as word-ok-reads
-=======
 -- After w turns the nodes of the first w occupancy words have passed, and N is a multiple of 32.
->>>>>>> 8c5031ae889fcd1c04386cb4433ca7bc4da58a07
 use mathlib.Core.Path.{_≡_, ap, subst, _∙_}
 use Prim.Native.Nat.{_+_, _-_, _*_, _/_, _%_, _≤_}
 use borrow.Author.Needs.{needs}

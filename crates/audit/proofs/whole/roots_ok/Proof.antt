@@ -1,16 +1,4 @@
-<<<<<<< HEAD
-use borrow.Author.Needs.{needs}
-use native.Mathlib.Omega.{arith}
-use Rattle.audit.proofs.whole.roots_ok.Statement.{statement}
-use Rattle.audit.proofs.whole.roots_ok.Tie as tie
-use Rattle.audit.proofs.whole.roots_ok.Reads as reads
-use Rattle.audit.proofs.whole.roots_ok.Lts as lts
-use Rattle.area.proofs.words.bump.Reads as bump-reads
-use Rattle.area.proofs.words.named.Reads as named-reads
-use Rattle.area.proofs.words.wide.Reads as wide-reads
-=======
 -- After v turns the first v roots are named and the tally holds them besides, at most one a turn, so no bump overflows.
->>>>>>> 8c5031ae889fcd1c04386cb4433ca7bc4da58a07
 use mathlib.Core.Path.{_≡_, refl, sym, subst}
 use mathlib.Core.Bool.{true≢false}
 use Prim.Native.Nat.{_+_, _-_, _≤_, _<_}

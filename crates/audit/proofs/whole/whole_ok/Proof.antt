@@ -10,25 +10,7 @@ use Rattle.area.proofs.Tallies.{zeros, at-most-le}
 use Rattle.audit.proofs.Parts.{area-long, sound-parts, last-answer}
 use Rattle.audit.proofs.whole.whole_ok.Statement.{statement}
 use Rattle.audit.proofs.whole.whole_ok.Tie as tie
-<<<<<<< HEAD
-use Rattle.audit.proofs.whole.whole_ok.Reads as reads
-use Rattle.audit.proofs.whole.whole_ok.Lts as lts
-use Rattle.area.proofs.area_ok.Reads as area-ok-reads
-use Rattle.audit.proofs.whole.counts_ok.Reads as counts-ok-reads
-use Rattle.audit.proofs.whole.roots_ok.Reads as roots-ok-reads
-use borrow.Author.Tests.{not-false}
-use mathlib.Core.Path.{_≡_, refl, sym, subst, _∙_}
-use Prim.Native.Nat.{_*_, _/_, _≤_}
-use lib.ListN.{length, replicate}
-use Rattle.area.specs.Area.{AtMost}
-use Rattle.area.proofs.Answers.{tells-yes, tells-no}
-use Rattle.area.proofs.Tallies.{zeros, at-most-le, links-most}
-use Rattle.audit.proofs.Parts.{area-long, sound-parts, last-answer}
 
--- src/whole.rt:87:20
-=======
-
->>>>>>> 8c5031ae889fcd1c04386cb4433ca7bc4da58a07
 slice-aggregate-area-ok : tie.Need-slice-aggregate-area-ok
 slice-aggregate-area-ok c = search needs
 

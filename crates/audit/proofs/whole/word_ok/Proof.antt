@@ -3,17 +3,6 @@ use mathlib.Core.Path.{_≡_, subst, _∙_}
 use Prim.Native.Nat.{_+_, _-_, _*_, _/_, _^_, _≤_, _<_}
 use borrow.Author.Needs.{needs}
 use native.Mathlib.Omega.{arith}
-<<<<<<< HEAD
-use Rattle.audit.proofs.whole.word_ok.Statement.{statement}
-use Rattle.audit.proofs.whole.word_ok.Tie as tie
-use Rattle.audit.proofs.whole.word_ok.Reads as reads
-use Rattle.audit.proofs.whole.word_ok.Lts as lts
-use Rattle.area.proofs.words.wide.Reads as wide-reads
-use Rattle.audit.proofs.whole.count_ok.Reads as count-ok-reads
-use mathlib.Core.Path.{_≡_, ap, sym, subst, _∙_}
-use Prim.Native.Nat.{_+_, _-_, _*_, _/_, _^_, _≤_, _<_}
-=======
->>>>>>> 8c5031ae889fcd1c04386cb4433ca7bc4da58a07
 use Rattle.model.specs.Block.{word, room, occupiedAt}
 use Rattle.area.proofs.Answers.{tells-yes, tells-no, each-none}
 use Rattle.audit.specs.Whole.{CountOk, CountsOk}
