@@ -1,0 +1,192 @@
+//! The table's calls with safe types, over the exports of include/ksk.h.
+
+use std::os::raw::c_uint;
+
+#[link(name = "switch", kind = "static")]
+extern "C" {
+    fn ksk_fresh(block: *mut u32, words: usize, n: c_uint) -> c_uint;
+    fn ksk_lookup(block: *const u32, words: usize, version: c_uint, key: c_uint, found: *mut u32, value: *mut u32) -> c_uint;
+    fn ksk_size(block: *const u32, words: usize, version: c_uint, size: *mut u32) -> c_uint;
+    fn ksk_insert(block: *mut u32, words: usize, dest: c_uint, source: c_uint, key: c_uint, value: c_uint, had: *mut u32, old: *mut u32) -> c_uint;
+    fn ksk_remove(block: *mut u32, words: usize, dest: c_uint, source: c_uint, key: c_uint, had: *mut u32, old: *mut u32) -> c_uint;
+    fn ksk_copy(block: *mut u32, words: usize, dest: c_uint, source: c_uint) -> c_uint;
+    fn ksk_clear(block: *mut u32, words: usize, version: c_uint) -> c_uint;
+    fn ksk_union(block: *mut u32, words: usize, dest: c_uint, left: c_uint, right: c_uint, rule: c_uint) -> c_uint;
+    fn ksk_difference(block: *mut u32, words: usize, dest: c_uint, left: c_uint, right: c_uint, rule: c_uint, cancel: c_uint) -> c_uint;
+    fn ksk_list(block: *const u32, words: usize, left: c_uint, right: c_uint, start: c_uint, out: *mut u32, out_words: usize, written: *mut u32, total: *mut u32) -> c_uint;
+    fn ksk_frames(block: *const u32, words: usize, from: c_uint, to: c_uint, batch: c_uint, start: c_uint, out: *mut u8, out_bytes: usize, written: *mut u32, total: *mut u32) -> c_uint;
+    fn ksk_begin(inbox: *mut u32, words: usize, batch: c_uint) -> c_uint;
+    fn ksk_receive(block: *mut u32, words: usize, inbox: *mut u32, inbox_words: usize, version: c_uint, line: *const u8, bytes: usize, again: *mut u32, missing: *mut u32) -> c_uint;
+    fn ksk_missing(inbox: *const u32, words: usize, missing: *mut u32) -> c_uint;
+}
+
+/// Why a call was refused. Nothing has changed.
+#[derive(Clone, Copy, Debug, PartialEq, Eq)]
+pub enum Refusal {
+    Shape,
+    Damaged,
+    Version,
+    Rule,
+    NoRoom,
+    TooDeep,
+    Frame,
+    Batch,
+    Count,
+}
+
+/// The value of a common key in a union.
+#[derive(Clone, Copy, Debug)]
+pub enum Merge {
+    Left = 0,
+    Right = 1,
+    Smaller = 2,
+    Larger = 3,
+    Sum = 4,
+}
+
+/// What becomes of a common key in a difference.
+#[derive(Clone, Copy, Debug)]
+pub enum Less {
+    Drop = 0,
+    DropIfEqual = 1,
+    Left = 2,
+    Minus = 3,
+}
+
+/// One entry of a listing; `right` is the right side's value where the key is common.
+#[derive(Clone, Copy, Debug, PartialEq, Eq)]
+pub struct Entry {
+    pub key: u32,
+    pub left: u32,
+    pub right: Option<u32>,
+}
+
+/// A line that was accepted: whether it had been heard before, and how many are missing.
+#[derive(Clone, Copy, Debug, PartialEq, Eq)]
+pub struct Heard {
+    pub again: bool,
+    pub missing: u32,
+}
+
+fn done(number: u32) -> Result<(), Refusal> {
+    Err(match number {
+        0 => return Ok(()),
+        1 => Refusal::Shape,
+        2 => Refusal::Damaged,
+        3 => Refusal::Version,
+        4 => Refusal::Rule,
+        5 => Refusal::NoRoom,
+        6 => Refusal::TooDeep,
+        7 => Refusal::Frame,
+        8 => Refusal::Batch,
+        9 => Refusal::Count,
+        other => unreachable!("the table gives numbers 0 to 9, not {other}"),
+    })
+}
+
+fn found(had: u32, value: u32) -> Option<u32> {
+    (had == 1).then_some(value)
+}
+
+/// A block of N nodes with its sixteen versions.
+pub struct Block {
+    words: Vec<u32>,
+}
+
+impl Block {
+    /// Sixteen empty versions in `n` nodes, a multiple of 32 from 32 to 4,096.
+    pub fn fresh(n: u32) -> Result<Block, Refusal> {
+        let words = 17 + n as usize / 32 + 6 * n as usize;
+        let mut block = Block { words: vec![0; words] };
+        done(unsafe { ksk_fresh(block.words.as_mut_ptr(), block.words.len(), n) })?;
+        Ok(block)
+    }
+
+    pub fn lookup(&self, version: u32, key: u32) -> Result<Option<u32>, Refusal> {
+        let (mut had, mut value) = (0, 0);
+        done(unsafe { ksk_lookup(self.words.as_ptr(), self.words.len(), version, key, &mut had, &mut value) })?;
+        Ok(found(had, value))
+    }
+
+    pub fn size(&self, version: u32) -> Result<u32, Refusal> {
+        let mut size = 0;
+        done(unsafe { ksk_size(self.words.as_ptr(), self.words.len(), version, &mut size) })?;
+        Ok(size)
+    }
+
+    /// Version `dest` becomes version `source` with `value` under `key`; answers what stood there.
+    pub fn insert(&mut self, dest: u32, source: u32, key: u32, value: u32) -> Result<Option<u32>, Refusal> {
+        let (mut had, mut old) = (0, 0);
+        done(unsafe { ksk_insert(self.words.as_mut_ptr(), self.words.len(), dest, source, key, value, &mut had, &mut old) })?;
+        Ok(found(had, old))
+    }
+
+    /// Version `dest` becomes version `source` without `key`; answers what stood there.
+    pub fn remove(&mut self, dest: u32, source: u32, key: u32) -> Result<Option<u32>, Refusal> {
+        let (mut had, mut old) = (0, 0);
+        done(unsafe { ksk_remove(self.words.as_mut_ptr(), self.words.len(), dest, source, key, &mut had, &mut old) })?;
+        Ok(found(had, old))
+    }
+
+    pub fn copy(&mut self, dest: u32, source: u32) -> Result<(), Refusal> {
+        done(unsafe { ksk_copy(self.words.as_mut_ptr(), self.words.len(), dest, source) })
+    }
+
+    pub fn clear(&mut self, version: u32) -> Result<(), Refusal> {
+        done(unsafe { ksk_clear(self.words.as_mut_ptr(), self.words.len(), version) })
+    }
+
+    pub fn union(&mut self, dest: u32, left: u32, right: u32, rule: Merge) -> Result<(), Refusal> {
+        done(unsafe { ksk_union(self.words.as_mut_ptr(), self.words.len(), dest, left, right, rule as u32) })
+    }
+
+    /// With `cancel` shared nodes are skipped; it may not go with `Less::Left`.
+    pub fn difference(&mut self, dest: u32, left: u32, right: u32, rule: Less, cancel: bool) -> Result<(), Refusal> {
+        done(unsafe { ksk_difference(self.words.as_mut_ptr(), self.words.len(), dest, left, right, rule as u32, cancel as u32) })
+    }
+
+    /// The whole listing of version `left` against version `right`.
+    pub fn list(&self, left: u32, right: u32) -> Result<Vec<Entry>, Refusal> {
+        let mut out = vec![0; 4 * self.size(left)? as usize];
+        let (mut written, mut total) = (0, 0);
+        done(unsafe { ksk_list(self.words.as_ptr(), self.words.len(), left, right, 0, out.as_mut_ptr(), out.len(), &mut written, &mut total) })?;
+        Ok(out[..written as usize].chunks(4).map(|e| Entry { key: e[0], left: e[1], right: found(e[2], e[3]) }).collect())
+    }
+
+    /// The lines that carry version `from` to version `to`.
+    pub fn frames(&self, from: u32, to: u32, batch: u32) -> Result<Vec<[u8; 35]>, Refusal> {
+        let mut out = vec![0; 35 * 4096];
+        let (mut written, mut total) = (0, 0);
+        done(unsafe { ksk_frames(self.words.as_ptr(), self.words.len(), from, to, batch, 0, out.as_mut_ptr(), out.len(), &mut written, &mut total) })?;
+        Ok(out[..written as usize].chunks(35).map(|line| line.try_into().expect("lines are 35 bytes")).collect())
+    }
+
+    /// Hears one line in `version`.
+    pub fn receive(&mut self, inbox: &mut Inbox, version: u32, line: &[u8]) -> Result<Heard, Refusal> {
+        let (mut again, mut missing) = (0, 0);
+        done(unsafe {
+            ksk_receive(self.words.as_mut_ptr(), self.words.len(), inbox.words.as_mut_ptr(), inbox.words.len(), version, line.as_ptr(), line.len(), &mut again, &mut missing)
+        })?;
+        Ok(Heard { again: again == 1, missing })
+    }
+}
+
+/// What a standby has heard of a batch.
+pub struct Inbox {
+    words: [u32; 130],
+}
+
+impl Inbox {
+    pub fn begin(batch: u32) -> Inbox {
+        let mut inbox = Inbox { words: [0; 130] };
+        done(unsafe { ksk_begin(inbox.words.as_mut_ptr(), inbox.words.len(), batch) }).expect("an inbox has 130 words");
+        inbox
+    }
+
+    /// How many lines are missing, or `None` while no line has been accepted.
+    pub fn missing(&self) -> Result<Option<u32>, Refusal> {
+        let mut missing = 0;
+        done(unsafe { ksk_missing(self.words.as_ptr(), self.words.len(), &mut missing) })?;
+        Ok((missing != u32::MAX).then_some(missing))
+    }
+}
