@@ -43,6 +43,10 @@ unfoldable pub Versions : List ℕ → Type 0
 Versions [] = Unit {0}
 Versions (v ∷ vs) = (v < 16) × Versions vs
 
+-- the checks that every call but fresh begins with: the block, then its versions; n is 0 where they pass
+abbrev pub Admitted : (b versions : List ℕ) (n : ℕ) → Type 0
+Admitted b versions n = Check (Shaped b) (n ≡ SHAPE) (Check (SoundBlock b) (n ≡ DAMAGED) (Check (Versions versions) (n ≡ VERSION) (n ≡ 0)))
+
 -- version dst becomes t, the other versions stay, and the block is sound
 pub record Edited (b after : List ℕ) (dst : ℕ) (t : Tree) : Type 0 where
   pub sound : SoundBlock after
