@@ -18,9 +18,6 @@ checked-refused b vs n C ne = go (ℕ-discrete n 1)
     go (yes e) = fails (C .shape e) e
     go (no e) = let two : n ≡ 2 = omega (arith, C .small) in passes (C .shaped e) (fails (C .damaged two) two)
 
-pub checked-sound : (b : List ℕ) (n : ℕ) → Checked b n → n ≡ 0 → SoundBlock b
-checked-sound b n C e = C .sound e
-
 pub checked-versions : (b vs : List ℕ) → SoundBlock b → (Versions vs → ⊥) → Admitted b vs VERSION
 checked-versions b vs B unknown = passes (B .shaped) (passes B (fails unknown refl))
 
@@ -43,11 +40,31 @@ unfolding Versions
 two-versions v w A = admitted-as (v ∷ w ∷ w ∷ []) (v ∷ w ∷ []) (λ u. (u .0, (u .1 .0, tt))) (λ u. (u .0, (u .1 .0, (u .1 .0, tt)))) A
 
 -- where they pass, the block is sound and the versions are known
-pub admitted-sound : {b : List ℕ} {n : ℕ} (vs : List ℕ) → Admitted b vs n → n ≡ 0 → SoundBlock b × Versions vs
-admitted-sound vs (fails p r) z = let e : _≡_ {A = ℕ} 1 0 = sym r ∙ z in absurd (omega arith)
-admitted-sound vs (passes p (fails q r)) z = let e : _≡_ {A = ℕ} 2 0 = sym r ∙ z in absurd (omega arith)
-admitted-sound vs (passes p (passes q (fails u r))) z = let e : _≡_ {A = ℕ} 3 0 = sym r ∙ z in absurd (omega arith)
-admitted-sound vs (passes p (passes q (passes u r))) z = (q, u)
+pub record Admission (b : List ℕ) (v w x : ℕ) : Type 0 where
+  pub sound : SoundBlock b
+  pub first : v < 16
+  pub second : w < 16
+  pub third : x < 16
+
+pub admission : {b : List ℕ} {n : ℕ} (v w x : ℕ) → Admitted b (v ∷ w ∷ x ∷ []) n → n ≡ 0 → Admission b v w x
+unfolding Versions
+admission v w x (fails p r) z = let e : _≡_ {A = ℕ} 1 0 = sym r ∙ z in absurd (omega arith)
+admission v w x (passes p (fails q r)) z = let e : _≡_ {A = ℕ} 2 0 = sym r ∙ z in absurd (omega arith)
+admission v w x (passes p (passes q (fails u r))) z = let e : _≡_ {A = ℕ} 3 0 = sym r ∙ z in absurd (omega arith)
+admission v w x (passes p (passes q (passes u r))) z = record { sound = q; first = u .0; second = u .1 .0; third = u .1 .1 .0 }
+
+-- the versions that a call names
+pub one-known : {v : ℕ} → v < 16 → Versions (v ∷ [])
+unfolding Versions
+one-known p = (p, tt)
+
+pub two-known : {v w : ℕ} → v < 16 → w < 16 → Versions (v ∷ w ∷ [])
+unfolding Versions
+two-known p q = (p, (q, tt))
+
+pub three-known : {v w x : ℕ} → v < 16 → w < 16 → x < 16 → Versions (v ∷ w ∷ x ∷ [])
+unfolding Versions
+three-known p q r = (p, (q, (r, tt)))
 
 -- where they fail, the call answers their number and changes nothing
 pub admitted-read : {b : List ℕ} {n : ℕ} (vs : List ℕ) (answer a : Answer) → Admitted b vs n → n ≢ 0 → a ≡ refusal n → Reads b vs answer a
@@ -55,6 +72,10 @@ admitted-read vs answer a (fails p r) ne e = fails p (e ∙ ap refusal r)
 admitted-read vs answer a (passes p (fails q r)) ne e = passes p (fails q (e ∙ ap refusal r))
 admitted-read vs answer a (passes p (passes q (fails u r))) ne e = passes p (passes q (fails u (e ∙ ap refusal r)))
 admitted-read vs answer a (passes p (passes q (passes u r))) ne e = absurd (ne r)
+
+-- where they pass, a call that only reads gives its answer
+pub reads-done : {b : List ℕ} {answer a : Answer} (vs : List ℕ) → SoundBlock b → Versions vs → a ≡ answer → Reads b vs answer a
+reads-done vs B u e = passes (B .shaped) (passes B (passes u e))
 
 pub admitted-edit : {b : List ℕ} {n : ℕ} (e : Edit) (a : Answer) → Admitted b (e .versions) n → n ≢ 0 → a ≡ refusal n → Edits b b e a
 admitted-edit e a (fails p r) ne q = fails p (q ∙ ap refusal r, refl)

@@ -10,7 +10,7 @@ use Rattle.block.specs.declared.Found.{Found}
 use Rattle.block.specs.declared.Found.the-variants.{Value, Absent}
 use Rattle.block.specs.declared.Made.{Made}
 use Rattle.block.specs.declared.Made.the-variants.{At, Full}
-use Rattle.table.specs.declared.Answer.{Answer}
+use Rattle.table.specs.declared.answers.Answer.{Answer}
 
 -- the answer's number and fields
 abbrev pub answerOf : Answer → calls.Answer
