@@ -1,0 +1,4 @@
+pub mod Admitting
+pub mod Settling
+pub mod Rules
+pub mod Freshening

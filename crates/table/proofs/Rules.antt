@@ -1,0 +1,59 @@
+-- Each rule's outcome from the roots that the code holds: insert and remove are told by the lookup whether the key is there.
+use mathlib.Core.Path.{_≡_, refl, sym, subst}
+use Prim.Native.Nat.{ℕ}
+use mathlib.Core.Bool.{Bool, true, false, true≢false}
+use mathlib.Core.List.{List}
+use Rattle.model.specs.Tree.{Tree, leaf, lookup}
+use Rattle.model.specs.Supply.{Make, done}
+use Rattle.model.specs.Rules.{insertBy, insert, removePresent, remove}
+use Rattle.model.specs.Heap.{Named, load, tree, version}
+use Rattle.model.specs.Block.{heap, SoundBlock}
+use Rattle.model.specs.Moves.{Running}
+use Rattle.model.proofs.Versions.{sound-running}
+use Rattle.block.specs.declared.Found.{Found}
+use Rattle.block.specs.declared.Found.the-variants.{Value, Absent}
+use Rattle.block.specs.declared.Made.{Made}
+use Rattle.block.specs.declared.Made.the-variants.{At}
+use Rattle.block.specs.Outcome.{Outcome, answer}
+use Rattle.block.proofs.Outcomes.{out-done}
+use Rattle.tree.specs.Remade.{remade}
+use Rattle.table.specs.Answers.{isAbsent}
+use Rattle.table.proofs.Settling.{Source, source-named, source-found}
+
+-- a new key uses balanced makes, an equal key plain ones
+insert-told : (f : Found) (t : Tree) (k v : ℕ) → answer f ≡ lookup t k → insertBy (remade (isAbsent f)) t k v ≡ insert t k v
+unfolding insert
+insert-told (Value w) t k v e = rw (← e, insert)
+insert-told Absent t k v e = rw (← e, insert)
+
+-- an absent key makes nothing
+remove-absent : (f : Found) (t : Tree) (k : ℕ) → answer f ≡ lookup t k → isAbsent f ≡ true → done t ≡ remove t k
+unfolding remove
+remove-absent (Value w) t k e a = absurd (true≢false (sym a))
+remove-absent Absent t k e a = rw (← e, remove)
+
+remove-present : (f : Found) (t : Tree) (k : ℕ) → answer f ≡ lookup t k → isAbsent f ≡ false → removePresent t k ≡ remove t k
+unfolding remove
+remove-present (Value w) t k e a = rw (← e, remove)
+remove-present Absent t k e a = absurd (true≢false a)
+
+pub removed-absent : {b : List ℕ} {n : ℕ} (f : Found) (key : ℕ) → Running b → Named (heap b) n → answer f ≡ lookup (tree (heap b) n) key → isAbsent f ≡ true → Outcome b b (At n) (remove (tree (heap b) n) key)
+removed-absent {b} {n} f key R o e a = subst (Outcome b b (At n)) (remove-absent f (tree (heap b) n) key e a) (out-done b n R o)
+
+pub removed-present : {b c : List ℕ} {q : Made} (f : Found) (n key : ℕ) → answer f ≡ lookup (tree (heap b) n) key → isAbsent f ≡ false → Outcome b c q (removePresent (tree (heap b) n) key) → Outcome b c q (remove (tree (heap b) n) key)
+removed-present {b} {c} {q} f n key e a O = subst (Outcome b c q) (remove-present f (tree (heap b) n) key e a) O
+
+module _ {b : List ℕ} {v r : ℕ} (S : Source b v r) where
+  pub inserted : {c : List ℕ} {q : Made} (f : Found) (fresh : Bool) (key value : ℕ) → fresh ≡ isAbsent f → answer f ≡ lookup (tree (heap b) r) key → Outcome b c q (insertBy (remade fresh) (tree (heap b) r) key value) → Outcome b c q (insert (version (heap b) v) key value)
+  inserted {c} {q} f fresh key value i e O =
+      rw (← S .is) (subst (Outcome b c q) (insert-told f (tree (heap b) r) key value e) (subst (λ x. Outcome b c q (insertBy (remade x) (tree (heap b) r) key value)) i O))
+
+  pub removed : {c : List ℕ} {q : Made} (key : ℕ) → Outcome b c q (remove (tree (heap b) r) key) → Outcome b c q (remove (version (heap b) v) key)
+  removed key O = rw (← S .is) O
+
+  pub copied : Outcome b b (At r) (done (version (heap b) v))
+  copied = rw (← S .is) (out-done b r (sound-running (S .sound)) (source-named S))
+
+pub cleared : {b : List ℕ} → SoundBlock b → Outcome b b (At 0) (done leaf)
+unfolding tree load
+cleared {b} B = out-done b 0 (sound-running B) tt

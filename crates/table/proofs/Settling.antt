@@ -1,0 +1,98 @@
+-- An edit from its checks to its end, whatever its rule: what the rule made becomes the destination, or every word is as at entry.
+use mathlib.Core.Path.{_≡_, refl, ap, sym, subst, _∙_}
+use mathlib.Core.Logic.{_≢_}
+use Prim.Native.Nat.{ℕ, zero, suc, _≤_, _<_}
+use mathlib.Core.Bool.{true, false, true≢false}
+use mathlib.Core.Option.{Option}
+use mathlib.Core.List.{List}
+use native.Mathlib.Omega.{arith}
+use Rattle.model.specs.Tree.{size, lookup, Ordered}
+use Rattle.model.specs.Heap.{Named, Linked, sizeAt, tree, version, supply}
+use Rattle.model.specs.Block.{heap, Words, Shaped, SoundBlock}
+use Rattle.model.specs.Moves.{Running, FullBelow, HeldBelow, Swept, Finished}
+use Rattle.model.specs.Numbers.{RULE, NO_ROOM}
+use Rattle.model.specs.Calls.{fails, passes, Answer, refusal, giving, Versions, Edit, Edits}
+use Rattle.model.proofs.Loads.{tree-size}
+use Rattle.model.proofs.Versions.{sound-running, version-named, version-small}
+use Rattle.block.specs.declared.Made.{Made}
+use Rattle.block.specs.declared.Made.the-variants.{At, Full}
+use Rattle.block.specs.Outcome.{Stands, Outcome}
+use Rattle.block.proofs.Edits.{held, carried, refused}
+use Rattle.table.specs.Answers.{ended, Settled}
+
+-- a version that a call reads, and its root
+pub record Source (b : List ℕ) (v r : ℕ) : Type 0 where
+  pub sound : SoundBlock b
+  pub known : v < 16
+  pub is : r ≡ heap b .root v
+
+module _ {b : List ℕ} {v r : ℕ} (S : Source b v r) where
+  pub source-named : Named (heap b) r
+  source-named = version-named (S .sound) v r (S .known) (S .is)
+
+  -- what a reading asks of it
+  pub read-asks : Shaped b × Linked (heap b) × Named (heap b) r
+  read-asks = (S .sound .shaped, S .sound .sound .kept .linked, source-named)
+
+  -- what a rule of one tree asks of it
+  pub rule-asks : Running b × Named (heap b) r × (sizeAt (heap b) r < 1048575)
+  rule-asks = (sound-running (S .sound), source-named, omega (arith, version-small (S .sound) v r (S .known) (S .is)))
+
+  -- what is found from the root is the version's
+  pub source-found : {o : Option ℕ} (key : ℕ) → o ≡ lookup (tree (heap b) r) key → o ≡ lookup (version (heap b) v) key
+  source-found key e = e ∙ ap (λ x. lookup (tree (heap b) x) key) (S .is)
+
+  pub source-size : sizeAt (heap b) r ≡ size (version (heap b) v)
+  source-size = sym (tree-size (heap b) (S .sound .sound .kept .linked) r source-named) ∙ ap (λ x. size (tree (heap b) x)) (S .is)
+
+-- the two ends of a call
+pub settled-at : {b e : List ℕ} {dst n : ℕ} {q : Made} → q ≡ At n → Finished b e dst n → Settled b e dst q 0
+settled-at {b} {e} {dst} p F = subst (λ q. Settled b e dst q 0) (sym p) (refl, F)
+
+pub settled-full : {b e : List ℕ} {q : Made} (dst : ℕ) → q ≡ Full → Swept b e → Settled b e dst q NO_ROOM
+settled-full {b} {e} dst p W = subst (λ q. Settled b e dst q NO_ROOM) (sym p) (refl, W)
+
+pub ended-refused : (n : ℕ) (a : Answer) → n ≢ 0 → refusal n ≡ ended n a
+ended-refused zero a ne = absurd (ne refl)
+ended-refused (suc n) a ne = refl
+
+-- a call without fields answers its number alone
+pub plain-ended : (n : ℕ) → refusal n ≡ ended n (giving 0)
+plain-ended zero = refl
+plain-ended (suc n) = refl
+
+-- an edit whose checks have passed
+pub record Begun (b : List ℕ) (e : Edit) : Type 0 where
+  pub sound : SoundBlock b
+  pub versions : Versions (e .versions)
+  pub legal : e .legal ≡ true
+  pub known : e .dst < 16
+
+-- and whose rule has run, from b to c, making nodes from number `low` on
+pub record Run (b c : List ℕ) (low : ℕ) (made : Made) (e : Edit) : Type 0 where
+  pub begun : Begun b e
+  pub low-is : (1 ≤ low) × FullBelow (heap b) low
+  pub out : Outcome b c made (e .rule)
+  pub ordered : Ordered (e .rule (supply (heap b)) .0)
+
+module _ {b c : List ℕ} {low : ℕ} {made : Made} {e : Edit} (R : Run b c low made e) where
+  pub settle-asks : Running c × (e .dst < 16) × Stands (heap c) made × (1 ≤ low) × HeldBelow (heap c) low
+  settle-asks = (R .out .came .running, R .begun .known, R .out .named, R .low-is .0, held (R .begun .sound) (R .low-is .1) (R .out))
+
+  -- the end of every edit
+  pub settled : {after : List ℕ} {a : Answer} (n : ℕ) → Settled c after (e .dst) made n → a ≡ ended n (e .answer) → Words b → Words after → Edits b after e a
+  settled {after} {a} n S q wb wa = go made (R .out) S
+    where
+      go : (m : Made) → Outcome b c m (e .rule) → Settled c after (e .dst) m n → Edits b after e a
+      go (At k) O (z, F) =
+          let B = R .begun in
+          let C = carried (B .sound) O (R .ordered) F in
+          passes (B .sound .shaped) (passes (B .sound) (passes (B .versions) (passes (B .legal) (passes (C .enough) (q ∙ ap (λ x. ended x (e .answer)) z, C .edited)))))
+      go Full O (z, W) =
+          let B = R .begun in
+          let X = refused (B .sound) O W wb wa in
+          passes (B .sound .shaped) (passes (B .sound) (passes (B .versions) (passes (B .legal) (fails (λ f. true≢false (sym (X .short) ∙ f)) (q ∙ ap (λ x. ended x (e .answer)) z, X .same)))))
+
+-- a rule number that is not known
+pub rule-refused : {b : List ℕ} {a : Answer} (e : Edit) → SoundBlock b → Versions (e .versions) → e .legal ≡ false → a ≡ refusal RULE → Edits b b e a
+rule-refused e B u l q = passes (B .shaped) (passes B (passes u (fails (λ t. true≢false (sym t ∙ l)) (q, refl))))

@@ -1,0 +1,86 @@
+-- The lookup tells whether the key is there; the rule's outcome then ends as every edit does.
+use borrow.Author.Needs.{needs}
+use mathlib.Core.Path.{refl, _∙_, ap}
+use native.Mathlib.Omega.{arith}
+use Rattle.model.specs.Calls.{removing, finding}
+use Rattle.model.proofs.Orders.{remove-ordered}
+use Rattle.model.proofs.Versions.{version-ordered}
+use Rattle.table.specs.Answers.{ended}
+use Rattle.table.proofs.Admitting.{two-versions, Admission, admission, two-known, admitted-edit}
+use Rattle.table.proofs.Settling.{Source, Run, read-asks, rule-asks, source-found, settle-asks, settled}
+use Rattle.table.proofs.Rules.{removed}
+use Rattle.table.proofs.edits.remove.Statement.{statement}
+use Rattle.table.proofs.edits.remove.Tie as tie
+
+admitted : (c : tie.Else1) → Admission (c .before .before .before .before .args .b .now) (c .before .before .before .before .args .dst) (c .before .before .before .before .args .src) (c .before .before .before .before .args .src)
+admitted c = admission _ _ _ (c .before .admit .ensures) (c .if1 .left)
+
+source : (c : tie.After-root) → Source (c .before .before .before .before .before .before .before .before .args .b .now) (c .before .before .before .before .before .before .before .before .args .src) (c .root .result)
+source c = let A = admitted (c .before .before .before .before) in record { sound = A .sound; known = A .second; is = c .root .ensures }
+
+run : (c : tie.After-without) → Run (c .before .before .before .before .before .before .before .before .before .before .before .before .args .b .now) (c .without .last .0) (c .before .before .before .before .before .before .makes-from .result) (c .without .result) (removing (c .before .before .before .before .before .before .before .before .before .before .before .before .args .b .now) (c .before .before .before .before .before .before .before .before .before .before .before .before .args .dst) (c .before .before .before .before .before .before .before .before .before .before .before .before .args .src) (c .before .before .before .before .before .before .before .before .before .before .before .before .args .key))
+run c =
+    let A = admitted (c .before .before .before .before .before .before .before .before) in
+    let S = source (c .before .before .before .before) in
+    let a = c .before .before .before .before .before .before .before .before .before .before .before .before .args in
+    record {
+      begun = record { sound = A .sound; versions = two-known (A .first) (A .second); legal = refl; known = A .first };
+      low-is = c .before .before .before .before .before .before .makes-from .ensures;
+      out = removed S (a .key) (c .without .ensures);
+      ordered = remove-ordered _ (a .key) _ (version-ordered (S .sound .sound) (a .src) (S .known));
+    }
+
+admit-requires : tie.Need-admit-requires
+admit-requires c κs = search needs
+
+plain-requires : tie.Need-plain-requires
+plain-requires c κs = search needs
+
+same-length : tie.Need-same-length
+same-length c = search needs
+
+returns : tie.Need-returns
+returns c = let a = c .before .before .before .before .before .args in admitted-edit (removing (a .b .now) (a .dst) (a .src) (a .key)) _ (two-versions _ _ (c .before .before .admit .ensures)) (c .before .if1 .taken) (c .plain .ensures)
+
+makes-from-requires : tie.Need-makes-from-requires
+makes-from-requires c κs = admitted (c .before) .sound .shaped
+
+root-requires : tie.Need-root-requires
+root-requires c κs = let A = admitted (c .before .before .before) in (A .sound .shaped, A .second)
+
+find-requires : tie.Need-find-requires
+find-requires c κs = read-asks (source (c .before))
+
+without-requires : tie.Need-without-requires
+without-requires c κs = let R = rule-asks (source (c .before .before .before)) in (R .0, R .1, R .2, c .before .find .ensures)
+
+settle-requires : tie.Need-settle-requires
+settle-requires c κs = settle-asks (run (c .before .before .before))
+
+after-requires : tie.Need-after-requires
+after-requires c κs = search needs
+
+same-length-2 : tie.Need-same-length-2
+same-length-2 c = search needs
+
+returns-2 : tie.Need-returns-2
+returns-2 c = let s = c .before .before .before .settle in
+    let is = c .after .ensures ∙ ap (λ o. ended (s .result) (finding o)) (source-found (source (c .before .before .before .before .before .before .before .before .before .before .before)) (c .before .before .before .before .before .before .before .before .before .before .before .before .before .before .before .before .before .before .before .args .key) (c .before .before .before .before .before .before .before .before .before .find .ensures)) in
+    settled (run (c .before .before .before .before .before .before .before)) (s .result) (s .ensures) is (λ i. omega (arith, c .before .before .before .before .before .before .before .before .before .before .before .before .before .before .before .before .before .before .slice-known .given i)) (λ i. omega (arith, c .before .slice-known3 .given i))
+
+pub remove-spec : {M : Type 1} → statement M
+remove-spec =
+    tie.close
+    (tie.spec
+    admit-requires
+    plain-requires
+    same-length
+    returns
+    makes-from-requires
+    root-requires
+    find-requires
+    without-requires
+    settle-requires
+    after-requires
+    same-length-2
+    returns-2)

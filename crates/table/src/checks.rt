@@ -1,0 +1,29 @@
+// The checks that calls begin with.
+use audit::check;
+ghost use mathlib.Core.Path.{_≡_};
+ghost use mathlib.Core.Bool.{_&&_, not};
+ghost use mathlib.Core.List.{[], _∷_};
+ghost use lib.Dec.{eqb, leb};
+ghost use Rattle.model.specs.Calls.{Admitted};
+
+const VERSION: u32 = 3;
+
+// The block, then its versions. A call of fewer versions names one again.
+pub fn admit(b: &[u32], v: u32, w: u32, x: u32) -> u32
+    ensures { λ r. ⌜ Admitted (now (b .entry)) (v ∷ w ∷ x ∷ []) r ⌝ }
+{
+    let n = check(b);
+    if n != 0 {
+        return n;
+    }
+    if 15 < v {
+        return VERSION;
+    }
+    if 15 < w {
+        return VERSION;
+    }
+    if 15 < x {
+        return VERSION;
+    }
+    0
+}

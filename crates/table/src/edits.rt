@@ -1,0 +1,119 @@
+// The calls that edit. A rule only makes nodes; the end of the call gives up what is not used.
+use crate::answers::Answer;
+use crate::answers::after;
+use crate::answers::plain;
+use crate::checks::admit;
+use block::Found;
+use block::Made;
+use block::ends::finish;
+use block::ends::sweep;
+use block::makes_from;
+use block::root;
+use tree::find;
+ghost use mathlib.Core.Path.{_≡_};
+ghost use Prim.Native.Nat.{_≤_, _<_};
+ghost use Rattle.model.specs.Tree.{lookup};
+ghost use Rattle.model.specs.Rules.{remove};
+ghost use Rattle.model.specs.Heap.{Named, sizeAt, tree};
+ghost use Rattle.model.specs.Block.{heap};
+ghost use Rattle.model.specs.Moves.{Running, HeldBelow};
+ghost use Rattle.model.specs.Calls.{Fresh, Edits, inserting, removing, copying, clearing};
+ghost use Rattle.block.specs.Outcome.{Outcome, Stands, answer};
+ghost use Rattle.table.specs.Answers.{answerOf, isAbsent, Settled};
+
+const NO_ROOM: u32 = 5;
+
+// The end of an edit: the destination takes what was made, or what was made is given up again.
+fn settle(b: &mut [u32], dst: u32, from: u32, made: Made) -> u32
+    requires { ⌜ Running (now b) × (dst < 16) × Stands (heap (now b)) made × (1 ≤ from) × HeldBelow (heap (now b)) from ⌝ }
+    ensures { λ r. ⌜ Settled (now (b .entry)) (now (b .exit)) dst made r ⌝ }
+{
+    let Made::At(n) = made else {
+        sweep(b, from);
+        return NO_ROOM;
+    };
+    finish(b, dst, n, from);
+    0
+}
+
+fn is_absent(f: Found) -> bool
+    ensures { λ r. ⌜ r ≡ isAbsent f ⌝ }
+{
+    match f {
+        Found::Value(_) => false,
+        Found::Absent => true,
+    }
+}
+
+// The tree below n without a key whose lookup gave f.
+fn without(b: &mut [u32], n: u32, key: u32, f: Found) -> Made
+    requires { ⌜ Running (now b) × Named (heap (now b)) n × (sizeAt (heap (now b)) n < 1048575) × (answer f ≡ lookup (tree (heap (now b)) n) key) ⌝ }
+    ensures { λ r. ⌜ Outcome (now (b .entry)) (now (b .exit)) r (remove (tree (heap (now (b .entry))) n) key) ⌝ }
+{
+    if is_absent(f) {
+        return Made::At(n);
+    }
+    tree::remove(b, n, key)
+}
+
+// N = n and sixteen empty versions.
+pub fn fresh(b: &mut [u32], n: u32) -> Answer
+    ensures { λ r. ⌜ Fresh (now (b .entry)) (now (b .exit)) n (answerOf r) ⌝ }
+{
+    plain(audit::fresh(b, n))
+}
+
+// Version dst becomes src with value under key; the answer is what stood there.
+pub fn insert(b: &mut [u32], dst: u32, src: u32, key: u32, value: u32) -> Answer
+    ensures { λ r. ⌜ Edits (now (b .entry)) (now (b .exit)) (inserting (now (b .entry)) dst src key value) (answerOf r) ⌝ }
+{
+    let n = admit(b, dst, src, src);
+    if n != 0 {
+        return plain(n);
+    }
+    let from = makes_from(b);
+    let source = root(b, src);
+    let found = find(b, source, key);
+    let made = tree::insert(b, is_absent(found), source, key, value);
+    after(settle(b, dst, from, made), found)
+}
+
+// Version dst becomes src without key; the answer is what stood there.
+pub fn remove(b: &mut [u32], dst: u32, src: u32, key: u32) -> Answer
+    ensures { λ r. ⌜ Edits (now (b .entry)) (now (b .exit)) (removing (now (b .entry)) dst src key) (answerOf r) ⌝ }
+{
+    let n = admit(b, dst, src, src);
+    if n != 0 {
+        return plain(n);
+    }
+    let from = makes_from(b);
+    let source = root(b, src);
+    let found = find(b, source, key);
+    let made = without(b, source, key, found);
+    after(settle(b, dst, from, made), found)
+}
+
+// Version dst becomes src. Nothing is made.
+pub fn copy(b: &mut [u32], dst: u32, src: u32) -> Answer
+    ensures { λ r. ⌜ Edits (now (b .entry)) (now (b .exit)) (copying (now (b .entry)) dst src) (answerOf r) ⌝ }
+{
+    let n = admit(b, dst, src, src);
+    if n != 0 {
+        return plain(n);
+    }
+    let from = makes_from(b);
+    let source = root(b, src);
+    plain(settle(b, dst, from, Made::At(source)))
+}
+
+// The version becomes empty.
+pub fn clear(b: &mut [u32], version: u32) -> Answer
+    ensures { λ r. ⌜ Edits (now (b .entry)) (now (b .exit)) (clearing version) (answerOf r) ⌝ }
+{
+    let n = admit(b, version, version, version);
+    if n != 0 {
+        return plain(n);
+    }
+    let from = makes_from(b);
+    plain(settle(b, version, from, Made::At(0)))
+}
