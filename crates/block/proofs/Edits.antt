@@ -23,7 +23,7 @@ use Rattle.block.proofs.Outcomes.{out-tree, out-done}
 
 module _ {b : List ℕ} (B : SoundBlock b) where
   -- the nodes below those that the call made have references
-  held : {e : List ℕ} {q : Made} {rule : Make Tree} {from : ℕ} → FullBelow (heap b) from → Outcome b e q rule → HeldBelow (heap e) from
+  pub held : {e : List ℕ} {q : Made} {rule : Make Tree} {from : ℕ} → FullBelow (heap b) from → Outcome b e q rule → HeldBelow (heap e) from
   held F O = held-from (B .sound .kept) F (O .came .grown) (O .came .running)
 
   -- what the end of the call asks, on success and on Full
