@@ -1,0 +1,5 @@
+pub mod Cases
+pub mod Piles
+pub mod Outputs
+pub mod Acts
+pub mod Goings
