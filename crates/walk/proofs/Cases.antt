@@ -55,11 +55,11 @@ module _ (h : Heap) (x y : ℕ) where
   unfolding trees
   trees-same e = rw (eq-eqb x y e, trees)
 
-  pub trees-left : (s t : ℕ) → x ≢ y → s ≡ sizeAt h y → t ≡ sizeAt h x → s ≤ t → Left x ≡ trees h x y
+  pub trees-left : (s t : ℕ) → x ≢ y → s ≡ sizeAt h x → t ≡ sizeAt h y → t ≤ s → Left x ≡ trees h x y
   unfolding trees
   trees-left s t e p q f = rw (ne-eqb x y e, trees) (rw (le-leb (sizeAt h y) (sizeAt h x) (omega arith)))
 
-  pub trees-right : (s t : ℕ) → x ≢ y → s ≡ sizeAt h y → t ≡ sizeAt h x → t < s → Right y ≡ trees h x y
+  pub trees-right : (s t : ℕ) → x ≢ y → s ≡ sizeAt h x → t ≡ sizeAt h y → s < t → Right y ≡ trees h x y
   unfolding trees
   trees-right s t e p q f = rw (ne-eqb x y e, trees) (rw (lt-leb (sizeAt h y) (sizeAt h x) (omega arith)))
 

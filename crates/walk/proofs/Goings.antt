@@ -273,9 +273,9 @@ module _ {h : Heap} {w : Wanted} {start : ℕ} {t : Told} {l r : Cursor} {n fuel
     left = dropped 1 l (G .left) (C .some);
     right = dropped (popsOf y) r (G .right) (fitting q);
     rest =
-      rw (c, d, pile-drop (l .places) (l .len) 1 (C .some), pile-drop (r .places) (r .len) (popsOf y) (fitting q))
-      (sym (told-row w start (row y) (walk (fuel - 1) (record { left = items h (drop 1 (stack l)); right = items h (drop (popsOf y) (stack r)) })) n out)
-      ∙ tell G (walk-yield fuel (items h (stack l)) (items h (stack r)) (C .turns) (acted-by q)));
+        rw (c, d, pile-drop (l .places) (l .len) 1 (C .some), pile-drop (r .places) (r .len) (popsOf y) (fitting q))
+        (sym (told-row w start (row y) (walk (fuel - 1) (record { left = items h (drop 1 (stack l)); right = items h (drop (popsOf y) (stack r)) })) n out)
+        ∙ tell G (walk-yield fuel (items h (stack l)) (items h (stack r)) (C .turns) (acted-by q)));
   })
 
 pub counted-le : (w : Wanted) (r : Row) → counted w r ≤ 1

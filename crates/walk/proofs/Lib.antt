@@ -3,3 +3,4 @@ pub mod Piles
 pub mod Outputs
 pub mod Acts
 pub mod Goings
+pub mod Changes

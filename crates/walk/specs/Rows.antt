@@ -1,4 +1,5 @@
 -- Which rows of a listing are wanted, and their words in the output.
+use mathlib.Core.Path.{_≡_}
 use Prim.Native.Nat.{ℕ, zero, suc, _+_, _-_, _*_, _/_}
 use mathlib.Core.Bool.{Bool, true, false, not}
 use mathlib.Core.Option.{Option, none, some}
@@ -7,7 +8,7 @@ use lib.ListN.{length, take, drop}
 use lib.Seq.{sets}
 use lib.Dec.{eqb, ltb, leb}
 use Rattle.model.specs.Listing.{Row, Walk}
-use Rattle.model.specs.Delta.{changed}
+use Rattle.model.specs.Delta.{Change, changed}
 use Rattle.walk.specs.declared.Yield.{Yield}
 use Rattle.walk.specs.declared.Yield.the-variants.{Only, Common}
 use Rattle.walk.specs.declared.Wanted.{Wanted}
@@ -75,6 +76,16 @@ answer w k = elim (k .deep) [ true ↦ TooDeep | false ↦ Total (length (chosen
 -- the output of a call that may be refused
 unfoldable pub kept : Wanted → ℕ → Walk → List ℕ → List ℕ
 kept w start k out = elim (k .deep) [ true ↦ out | false ↦ written w start (k .rows) out ]
+
+-- a change of the delta as two words: its key, and its value or 0
+unfoldable pub changeWords : List Change → List ℕ
+changeWords [] = []
+changeWords (c ∷ cs) = c .key ∷ valueOf (c .now) ∷ changeWords cs
+
+-- what a walk for w yields are the changes cs
+pub record Changes (w : Wanted) (rows : List Row) (cs : List Change) : Type 0 where
+  pub count : length (chosen w rows) ≡ length cs
+  pub words : (start room : ℕ) → part w start room rows ≡ changeWords (take (room / 2) (drop start cs))
 
 -- The same one row at a time, as the walk goes.
 

@@ -135,10 +135,12 @@ fn two_trees(b: &[u32], x: u32, y: u32) -> Act
     requires { ⌜ Shaped (now b) × Linked (heap (now b)) × Named (heap (now b)) x × Named (heap (now b)) y ⌝ }
     ensures { λ r. ⌜ r ≡ trees (heap (now (b .entry))) x y ⌝ }
 {
+    let s = block::size_at(b, x);
+    let t = block::size_at(b, y);
     if x == y {
         return Act::Drop(1);
     }
-    if block::size_at(b, y) <= block::size_at(b, x) {
+    if t <= s {
         return Act::Left(x);
     }
     Act::Right(y)
@@ -257,7 +259,15 @@ fn put2(out: &mut [u32], i: usize, key: u32, value: u32)
     out[at + 1] = value;
 }
 
-fn put_words(out: &mut [u32], i: usize, wanted: Wanted, key: u32, left: u32, common: u32, right: u32)
+fn put_words(
+    out: &mut [u32],
+    i: usize,
+    wanted: Wanted,
+    key: u32,
+    left: u32,
+    common: u32,
+    right: u32,
+)
     ensures { λ _. ⌜ now (out .exit) ≡ putAt (width wanted) i (wordsBy wanted key left common right) (now (out .entry)) ⌝ }
 {
     match wanted {

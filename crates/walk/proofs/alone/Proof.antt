@@ -1,25 +1,17 @@
+-- With nothing on the right the act is by the left's item alone.
 use borrow.Author.Needs.{needs}
-use native.Mathlib.Omega.{arith}
 use Rattle.walk.proofs.alone.Statement.{statement}
 use Rattle.walk.proofs.alone.Tie as tie
-use Rattle.walk.proofs.alone.Reads as reads
-use Rattle.walk.proofs.alone.Lts as lts
 
-
-
--- src/lib.rt:164:23
 enum-known-a : tie.Need-enum-known-a
 enum-known-a c = search needs
 
--- src/lib.rt:165:24
 enum-known-a-2 : tie.Need-enum-known-a-2
 enum-known-a-2 c = search needs
 
--- src/lib.rt:160:1
 returns : tie.Need-returns
 returns c = rw (c .before .a .given .1)
 
--- src/lib.rt:160:1
 returns-2 : tie.Need-returns-2
 returns-2 c = rw (c .before .a2 .given .1)
 

@@ -1,42 +1,29 @@
+-- The words of a row follow from its kind.
 use borrow.Author.Needs.{needs}
-use native.Mathlib.Omega.{arith}
 use Rattle.walk.proofs.put_row.Statement.{statement}
 use Rattle.walk.proofs.put_row.Tie as tie
-use Rattle.walk.proofs.put_row.Reads as reads
-use Rattle.walk.proofs.put_row.Lts as lts
-use Rattle.walk.proofs.put_words.Reads as put-words-reads
 
-
-
--- src/lib.rt:275:21
 enum-known-y : tie.Need-enum-known-y
 enum-known-y c = search needs
 
--- src/lib.rt:275:30
 put-words-requires : tie.Need-put-words-requires
 put-words-requires c κs = search needs
 
--- src/lib.rt:276:23
 enum-known-y-2 : tie.Need-enum-known-y-2
 enum-known-y-2 c = search needs
 
--- src/lib.rt:276:35
 put-words-requires-2 : tie.Need-put-words-requires-2
 put-words-requires-2 c κs = search needs
 
--- src/lib.rt:271:1
 same-length : tie.Need-same-length
 same-length c = search needs
 
--- src/lib.rt:271:1
 returns : tie.Need-returns
 returns c = rw (c .before .before .before .before .before .y .given .1) (c .before .before .put-words .ensures)
 
--- src/lib.rt:271:1
 same-length-2 : tie.Need-same-length-2
 same-length-2 c = search needs
 
--- src/lib.rt:271:1
 returns-2 : tie.Need-returns-2
 returns-2 c = rw (c .before .before .before .before .before .y2 .given .1) (c .before .before .put-words2 .ensures)
 

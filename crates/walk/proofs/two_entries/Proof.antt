@@ -1,21 +1,15 @@
-use borrow.Author.Needs.{needs}
+-- Keys are compared in three ways.
 use native.Mathlib.Omega.{arith}
 use Rattle.walk.proofs.two_entries.Statement.{statement}
 use Rattle.walk.proofs.two_entries.Tie as tie
-use Rattle.walk.proofs.two_entries.Reads as reads
-use Rattle.walk.proofs.two_entries.Lts as lts
-
 use Rattle.walk.proofs.Cases.{entries-less, entries-same, entries-more}
 
--- src/lib.rt:151:9
 returns : tie.Need-returns
 returns c = entries-less _ _ _ _ (c .if1 .taken)
 
--- src/lib.rt:154:9
 returns-2 : tie.Need-returns-2
 returns-2 c = entries-same _ _ _ _ (c .if2 .taken)
 
--- src/lib.rt:147:1
 returns-3 : tie.Need-returns-3
 returns-3 c = let a = c .before .before .args in entries-more (a .k) (a .v) (a .j) (a .u) (omega (arith, c .before .if1 .left, c .if2 .left))
 
