@@ -1,19 +1,18 @@
 -- What the code chooses by numbers and tops is what the listing's turn does by trees.
-use mathlib.Core.Path.{_≡_, refl, ap, sym, _∙_}
+use mathlib.Core.Path.{_≡_, refl, ap, _∙_}
 use mathlib.Core.Bool.{Bool, true, false}
 use mathlib.Core.List.{List, [], _∷_}
-use Prim.Native.Nat.{ℕ, zero, suc, _+_, _-_, _≤_, _<_, compare, Ordering, Ordering·lt, Ordering·eq, Ordering·gt}
+use Prim.Native.Nat.{ℕ, zero, suc, _≤_, _<_, compare, Ordering, Ordering·lt, Ordering·eq, Ordering·gt}
 use native.Mathlib.Omega.{arith}
 use lib.ListN.{length, drop}
 use lib.Dec.{eqb, leb}
-use Rattle.model.specs.Tree.{Tree, leaf, node, size, idOf}
+use Rattle.model.specs.Tree.{Tree, size, idOf}
 use Rattle.model.specs.Heap.{Heap, Occupied, Named, Linked, sizeAt, tree, load}
-use Rattle.model.specs.Listing.{Item, Sides, Turn, on, yield, pend, opened, turn}
+use Rattle.model.specs.Listing.{Turn, on, yield, pend, opened, turn}
 use Rattle.model.proofs.Loads.{tree-node, tree-id, tree-size}
 use Rattle.model.proofs.Growing.{named-occupied}
 use Rattle.walk.specs.declared.Pending.{Pending}
 use Rattle.walk.specs.declared.Pending.the-variants as pending
-use Rattle.walk.specs.declared.Yield.{Yield}
 use Rattle.walk.specs.declared.Yield.the-variants.{Only, Common}
 use Rattle.walk.specs.declared.Act.{Act}
 use Rattle.walk.specs.declared.Act.the-variants.{Left, Right, Drop, Give}
@@ -51,7 +50,7 @@ module _ (h : Heap) (L : Linked h) where
   items-opened n s o =
       rw (tree-node h L n o, items-kid (h .left n) (pending.Entry (h .key n) (h .value n) ∷ kid (h .right n) s) (L .lefts n o), items-kid (h .right n) s (L .rights n o))
 
-  pub kid-standing : (n : ℕ) (s : List Pending) → Named h n → AllStanding h s → AllStanding h (kid n s)
+  kid-standing : (n : ℕ) (s : List Pending) → Named h n → AllStanding h s → AllStanding h (kid n s)
   unfolding AllStanding
   kid-standing zero s o a = a
   kid-standing (suc n) s o a = (o, a)

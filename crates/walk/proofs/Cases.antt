@@ -1,7 +1,7 @@
 -- Definitions by cases on a number or an enum, where the code tests instead.
-use mathlib.Core.Path.{_≡_, refl, sym}
+use mathlib.Core.Path.{_≡_, refl}
 use mathlib.Core.Logic.{_≢_}
-use Prim.Native.Nat.{ℕ, zero, suc, _+_, _-_, _≤_, _<_}
+use Prim.Native.Nat.{ℕ, zero, suc, _-_, _≤_, _<_}
 use mathlib.Core.Bool.{true, false}
 use mathlib.Core.List.{List}
 use native.Mathlib.Omega.{arith}
@@ -14,7 +14,6 @@ use Rattle.model.proofs.Growing.{named-occupied}
 use Rattle.walk.specs.declared.Pending.{Pending}
 use Rattle.walk.specs.declared.Pending.the-variants.{Tree}
 use Rattle.walk.specs.declared.Place.{Place}
-use Rattle.walk.specs.declared.Act.{Act}
 use Rattle.walk.specs.declared.Act.the-variants.{Left, Right, Drop, Give}
 use Rattle.walk.specs.declared.Wanted.{Wanted}
 use Rattle.walk.specs.declared.Yield.{Yield}

@@ -1,15 +1,15 @@
 -- A walk for puts or removes yields the delta's changes: the same rows are wanted, in the same order.
-use mathlib.Core.Path.{_≡_, refl, ap, sym, _∙_}
+use mathlib.Core.Path.{_≡_, refl, ap}
 use mathlib.Core.Bool.{Bool, true, false}
 use mathlib.Core.Option.{Option, none, some}
 use mathlib.Core.List.{List, [], _∷_, map}
 use Prim.Native.Nat.{ℕ, zero, suc, _/_}
-use lib.ListN.{length, take, drop, length-map}
+use lib.ListN.{take, drop, length-map}
 use Rattle.model.specs.Listing.{Row}
 use Rattle.model.specs.Delta.{Change, changed, puts, removes}
 use Rattle.walk.specs.declared.Wanted.{Wanted}
-use Rattle.walk.specs.declared.Wanted.the-variants.{Rows, Puts, Removes}
-use Rattle.walk.specs.Rows.{lacking, chosen, width, words, wordsOf, part, valueOf, changeWords, Changes}
+use Rattle.walk.specs.declared.Wanted.the-variants.{Puts, Removes}
+use Rattle.walk.specs.Rows.{chosen, width, words, wordsOf, part, valueOf, changeWords, Changes}
 
 take-map : (f : Row → Change) (n : ℕ) (rs : List Row) → take n (map f rs) ≡ map f (take n rs)
 take-map f zero rs = refl

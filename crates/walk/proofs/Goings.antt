@@ -1,34 +1,30 @@
 -- A turn of the loop takes from the listing what it adds to the answer, so what the walk will tell stays the same.
 use mathlib.Core.Path.{_≡_, refl, ap, sym, _∙_}
-use mathlib.Core.Bool.{Bool, true, false, _||_}
+use mathlib.Core.Bool.{Bool, true, false}
 use mathlib.Core.List.{List, [], _∷_}
 use Prim.Native.Nat.{ℕ, zero, suc, _+_, _-_, _*_, _≤_, _<_}
 use native.Mathlib.Numerals.{sub-one}
 use native.Mathlib.Omega.{arith}
-use lib.ListN.{length, getD, set, drop, replicate, length-set}
-use lib.Dec.{ltb}
+use lib.ListN.{length, getD, set, drop, length-set}
 use borrow.Author.Tests.{lt-ltb, le-ltb}
-use Rattle.model.specs.Tree.{size}
-use Rattle.model.specs.Heap.{Heap, Occupied, Named, Linked, sizeAt, tree}
+use Rattle.model.specs.Heap.{Heap, Named, Linked, sizeAt, tree}
 use Rattle.model.specs.Listing.{Item, Sides, Row, Turn, Walk, over, on, yield, turn, tooDeep, walk, pend, turns, listing}
 use Rattle.model.specs.Block.{heap, SoundBlock}
 use Rattle.model.proofs.Loads.{tree-size}
 use Rattle.model.proofs.Versions.{tree-room}
 use Rattle.walk.specs.declared.Pending.{Pending}
-use Rattle.walk.specs.declared.Place.{Place}
 use Rattle.walk.specs.declared.Cursor.{Cursor}
 use Rattle.walk.specs.declared.Opened.{Opened}
 use Rattle.walk.specs.declared.Yield.{Yield}
 use Rattle.walk.specs.declared.Act.{Act}
 use Rattle.walk.specs.declared.Act.the-variants.{Left, Right, Drop, Give}
 use Rattle.walk.specs.declared.Wanted.{Wanted}
-use Rattle.walk.specs.declared.Walked.{Walked}
 use Rattle.walk.specs.declared.Walked.the-variants.{Total, TooDeep}
 use Rattle.walk.specs.Rows.{row, wants, chosen, counted, shown, written, answer}
 use Rattle.walk.specs.Cursors.{nowhere, pile, stack, items, AllStanding, Side, begun, openedAt, actOf, popsOf}
 use Rattle.walk.proofs.Piles.{length-pile, pile-drop, top-at, kid, openedOn, opened-pile, opened-long}
 use Rattle.walk.proofs.Outputs.{shows, shows-written, chosen-more}
-use Rattle.walk.proofs.Acts.{below, acted, Fit, items-kid, kid-standing, opened-standing, Facing, acts-by, fit-by}
+use Rattle.walk.proofs.Acts.{below, acted, Fit, items-kid, opened-standing, Facing, acts-by, fit-by}
 
 -- what a walk tells in the end
 pub record Told : Type 0 where

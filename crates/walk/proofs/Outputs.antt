@@ -2,19 +2,18 @@
 use mathlib.Core.Path.{_≡_, refl, ap, sym, _∙_}
 use mathlib.Core.Bool.{Bool, true, false}
 use mathlib.Core.List.{List, [], _∷_, _++_, append-assoc}
-use Prim.Native.Nat.{ℕ, zero, suc, _+_, _-_, _*_, _/_, _≤_, _<_}
+use Prim.Native.Nat.{ℕ, zero, suc, _+_, _-_, _*_, _/_, _≤_, _<_, min}
 use native.Mathlib.Nat.{add-zero, sub-zero}
 use native.Mathlib.Numerals.{add-one}
 use native.Mathlib.Omega.{arith}
 use native.Mathlib.Decide.{decLe}
-use lib.ListN.{length, take, drop, length-append, length-drop}
+use lib.ListN.{length, take, drop, length-append, length-take, length-drop}
 use lib.Seq.{sets, sets-eq, take-at, drop-append-add, drop-drop}
-use lib.Dec.{ltb, leb}
+use lib.Dec.{ltb}
 use borrow.Author.Tests.{lt-ltb, le-ltb, le-leb, lt-leb}
 use Rattle.model.specs.Listing.{Row, Walk}
 use Rattle.walk.specs.declared.Wanted.{Wanted}
 use Rattle.walk.specs.declared.Wanted.the-variants.{Rows, Puts, Removes}
-use Rattle.walk.specs.declared.Walked.{Walked}
 use Rattle.walk.specs.declared.Walked.the-variants.{Total, TooDeep}
 use Rattle.walk.specs.Rows.{wants, chosen, width, words, wordsOf, part, written, answer, kept, putAt, counted, shown}
 
@@ -153,6 +152,22 @@ module _ (w : Wanted) (start : ℕ) where
       ∙ (placed-skips w start 0 cs out (omega arith)
       ∙ (ap (λ (k : ℕ). placed w start start (drop k cs) out) (sub-zero start)
       ∙ (ap (λ (k : ℕ). placed w start k (drop start cs) out) (sym (add-zero start)) ∙ placed-fills 0 (drop start cs) [] out (omega arith))))
+
+-- how many words are written
+words-of-long : (w : Wanted) (rs : List Row) → length (wordsOf w rs) ≡ length rs * width w
+unfolding wordsOf
+words-of-long w [] = omega arith
+words-of-long w (r ∷ rs) = omega (arith, length-append (words w r) (wordsOf w rs), words-long w r, words-of-long w rs, divides w .next (length rs))
+
+module _ (w : Wanted) (start : ℕ) (rs : List Row) where
+  pub part-long : (room : ℕ) → length (part w start room rs) ≡ min (room / width w) (length (chosen w rs) - start) * width w
+  unfolding part
+  part-long room = words-of-long w (take (room / width w) (drop start (chosen w rs))) ∙ rw (length-take (room / width w) (drop start (chosen w rs)), length-drop start (chosen w rs))
+
+  -- the part that is written, taken back
+  pub part-taken : (out : List ℕ) → take (length (part w start (length out) rs)) (written w start rs out) ≡ part w start (length out) rs
+  unfolding written
+  part-taken out = take-at (part w start (length out) rs) (drop (length (part w start (length out) rs)) out) (length (part w start (length out) rs)) refl
 
 -- one more row counts if it is wanted
 pub chosen-more : (w : Wanted) (n : ℕ) (r : Row) (rs : List Row) → n + length (chosen w (r ∷ rs)) ≡ (n + counted w r) + length (chosen w rs)

@@ -1,12 +1,10 @@
 // 001's walk of one tree against another, and the rows that it yields.
 ghost use mathlib.Core.Path.{_≡_};
-ghost use mathlib.Core.Bool.{Bool, true, false};
-ghost use mathlib.Core.List.{List, [], _∷_};
-ghost use Prim.Native.Nat.{ℕ, _+_, _-_, _*_, _<_, _≤_};
-ghost use lib.ListN.{length};
-ghost use Rattle.model.specs.Heap.{Named, Occupied, Linked, sizeAt, tree};
+ghost use mathlib.Core.List.{[], _∷_};
+ghost use Prim.Native.Nat.{_-_, _<_, _≤_};
+ghost use Rattle.model.specs.Heap.{Named, Occupied, Linked, tree};
 ghost use Rattle.model.specs.Block.{heap, Shaped, SoundBlock};
-ghost use Rattle.model.specs.Listing.{Walk, listing};
+ghost use Rattle.model.specs.Listing.{listing};
 ghost use Rattle.walk.specs.Rows.{wants, wordsBy, words, width, changedBy, lackingBy, row, putAt, counted, shown, written, answer, kept};
 ghost use Rattle.walk.specs.Cursors.{oneOf, placeOf, popsOf, Standing, openedAt, trees, entries, bothOf, aloneOf, actOf, begun};
 

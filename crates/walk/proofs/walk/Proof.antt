@@ -50,6 +50,16 @@ chosen c = record {
   is = c .choose .ensures;
 }
 
+in-order : (q : tie.After-open Inv-loop μ-loop) → q .«open» .result .at ≤ q .«open» .result .last
+in-order q =
+    let p = q .before .before .before .before in
+    opened-order (heap (entry-of p .args .b .now)) (q .before .before .m .given .0 .0) (turn-of p .loop .l .len - 1) (q .«open» .result) (q .«open» .ensures) .1
+
+in-order-2 : (q : tie.After-open2 Inv-loop μ-loop) → q .open2 .result .at ≤ q .open2 .result .last
+in-order-2 q =
+    let p = q .before .before .before .before in
+    opened-order (heap (entry-of p .args .b .now)) (q .before .before .m2 .given .0 .0) (p .before .before .top-index .result) (q .open2 .result) (q .open2 .ensures) .1
+
 begin-requires : tie.Need-begin-requires Inv-loop μ-loop
 begin-requires c κs = tt
 
@@ -72,7 +82,8 @@ add-fuel-2 : tie.Need-add-fuel-2 Inv-loop μ-loop
 add-fuel-2 c = omega (arith, sizes c)
 
 loop-holds : tie.Need-loop-holds Inv-loop μ-loop
-loop-holds c = let s = c .before .before .before .before .before .before in
+loop-holds c =
+    let s = c .before .before .before .before .before .before in
     let a = s .args in (
       going-begins (heap (a .b .now)) (a .wanted) (a .start) (a .left) (a .right) _ _ _ _ (ready s .1) (s .pre .1) (s .pre .2) (c .before .before .before .begin .ensures) (c .before .before .begin2 .ensures) (rw (c .before .size-at .ensures, c .size-at2 .ensures)),
       omega (arith, sizes c),
@@ -107,7 +118,8 @@ element-copy-out-rp : tie.Need-element-copy-out-rp Inv-loop μ-loop
 element-copy-out-rp c = omega (arith, c .top-index .ensures .1)
 
 choose-requires : tie.Need-choose-requires Inv-loop μ-loop
-choose-requires c κs = let s = c .before .before .before .before .before .before .before .before .before .before .before .before in
+choose-requires c κs =
+    let s = c .before .before .before .before .before .before .before .before .before .before .before .before in
     let F = faces (c .before .before .before .before .before .loop .inv .0) (c .before .top-index .result) (omega (arith, c .before .before .before .if1 .left)) (c .before .top-index .ensures .0) in
     (ready s .0, ready s .1, stand-a F, stand-z F)
 
@@ -115,26 +127,39 @@ enum-known-m : tie.Need-enum-known-m Inv-loop μ-loop
 enum-known-m c = search needs
 
 open-requires : tie.Need-open-requires Inv-loop μ-loop
-open-requires c κs = let v = c .before .before .before .before .before .before .before .before .before .loop .inv in let p = (c .before .before .before) in let s = entry-of p in
-    (ready s .0, ready s .1, fitting (v .0) (chosen p) (c .before .m .given .1), omega (arith, v .0 .left .few, c .before .before .before .before .before .before .before .if1 .left))
+open-requires c κs =
+    let p = c .before .before .before in
+    let v = turn-of p .loop .inv in
+    let s = ready (entry-of p) in
+    (s .0, s .1, fitting (v .0) (chosen p) (c .before .m .given .1), omega (arith, v .0 .left .few, (chosen p) .some))
 
 same-length-2 : tie.Need-same-length-2 Inv-loop μ-loop
-same-length-2 c = c .before .before .before .before .before .before .before .before .before .before .before .before .before .before .loop .inv .2
+same-length-2 c = turn-of (c .before .before .before .before .before .before .before .before) .loop .inv .2
 
 returns-2 : tie.Need-returns-2 Inv-loop μ-loop
-returns-2 c = let v = c .before .before .before .before .before .before .before .before .before .before .before .before .before .before .loop .inv in let p = (c .before .before .before .before .before .before .before .before) in told-deep _ _ _ _ _ _ (deepens-left (v .0) (chosen p) (c .before .before .before .before .before .before .m .given .1) (c .before .before .before .before .«open» .ensures) (c .if2 .taken))
+returns-2 c =
+    let q = c .before .before .before .before in
+    let p = q .before .before .before .before in
+    let v = turn-of p .loop .inv in
+    told-deep _ _ _ _ _ _ (deepens-left (v .0) (chosen p) (q .before .before .m .given .1) (q .«open» .ensures) (c .if2 .taken))
 
 mul-p : tie.Need-mul-p Inv-loop μ-loop
-mul-p c = let v = c .before .before .before .before .before .before .before .before .before .before .before .before .before .before .loop .inv in omega (arith, v .0 .left .few)
+mul-p c =
+    let p = c .before .before .before .before .before .before .before .before in
+    let v = turn-of p .loop .inv in
+    omega (arith, v .0 .left .few)
 
 element-set-from-p : tie.Need-element-set-from-p Inv-loop μ-loop
-element-set-from-p c = let v = c .before .before .before .before .before .before .before .before .before .before .before .before .before .before .loop .inv in omega (arith, v .0 .left .few, c .before .before .before .before .before .before .before .before .before .before .before .before .if1 .left)
+element-set-from-p c =
+    let p = c .before .before .before .before .before .before .before .before in
+    let v = turn-of p .loop .inv in
+    omega (arith, v .0 .left .few, (chosen p) .some)
 
 mul-e : tie.Need-mul-e Inv-loop μ-loop
-mul-e c = let o = opened-order (heap (c .before .before .before .before .before .before .before .before .before .before .before .before .before .before .before .before .before .before .before .before .before .args .b .now)) (c .before .before .before .before .before .before .m .given .0 .0) (c .before .before .before .before .before .before .before .before .before .before .before .before .before .before .loop .l .len - 1) (c .before .before .before .before .«open» .result) (c .before .before .before .before .«open» .ensures) in omega (arith, c .if2 .left)
+mul-e c = omega (arith, in-order (c .before .before .before .before), c .if2 .left)
 
 element-set-from-e : tie.Need-element-set-from-e Inv-loop μ-loop
-element-set-from-e c = let o = opened-order (heap (c .before .before .before .before .before .before .before .before .before .before .before .before .before .before .before .before .before .before .before .before .before .args .b .now)) (c .before .before .before .before .before .before .m .given .0 .0) (c .before .before .before .before .before .before .before .before .before .before .before .before .before .before .loop .l .len - 1) (c .before .before .before .before .«open» .result) (c .before .before .before .before .«open» .ensures) in omega (arith, c .if2 .left)
+element-set-from-e c = omega (arith, in-order (c .before .before .before .before), c .if2 .left)
 
 mul-q : tie.Need-mul-q Inv-loop μ-loop
 mul-q c = omega (arith, c .if2 .left)
@@ -149,32 +174,43 @@ loop-less : tie.Need-loop-less Inv-loop μ-loop
 loop-less c = omega arith
 
 loop-again : tie.Need-loop-again Inv-loop μ-loop
-loop-again c = let v = c .before .before .before .before .before .before .before .before .before .before .before .before .before .before .loop .inv in let p = (c .before .before .before .before .before .before .before .before) in (goes-left (v .0) (chosen p) (c .before .before .before .before .before .before .m .given .1) (c .before .before .before .before .«open» .ensures) (c .if2 .left), omega (arith, v .1), v .2)
+loop-again c =
+    let q = c .before .before .before .before in
+    let p = q .before .before .before .before in
+    let v = turn-of p .loop .inv in
+    (goes-left (v .0) (chosen p) (q .before .before .m .given .1) (q .«open» .ensures) (c .if2 .left), omega (arith, v .1), v .2)
 
 enum-known-m-2 : tie.Need-enum-known-m-2 Inv-loop μ-loop
 enum-known-m-2 c = search needs
 
 open-requires-2 : tie.Need-open-requires-2 Inv-loop μ-loop
-open-requires-2 c κs = let v = c .before .before .before .before .before .before .before .before .before .loop .inv in let p = (c .before .before .before) in let s = entry-of p in
-    (ready s .0, ready s .1, fitting (v .0) (chosen p) (c .before .m2 .given .1) .0, c .before .before .before .before .before .top-index .ensures .1)
+open-requires-2 c κs =
+    let p = c .before .before .before in
+    let v = turn-of p .loop .inv in
+    let s = ready (entry-of p) in
+    (s .0, s .1, fitting (v .0) (chosen p) (c .before .m2 .given .1) .0, c .before .before .before .before .before .top-index .ensures .1)
 
 same-length-3 : tie.Need-same-length-3 Inv-loop μ-loop
-same-length-3 c = c .before .before .before .before .before .before .before .before .before .before .before .before .before .before .loop .inv .2
+same-length-3 c = turn-of (c .before .before .before .before .before .before .before .before) .loop .inv .2
 
 returns-3 : tie.Need-returns-3 Inv-loop μ-loop
-returns-3 c = let v = c .before .before .before .before .before .before .before .before .before .before .before .before .before .before .loop .inv in let p = (c .before .before .before .before .before .before .before .before) in told-deep _ _ _ _ _ _ (deepens-right (v .0) (chosen p) (c .before .before .before .before .before .before .m2 .given .1) (c .before .before .before .before .open2 .ensures) (c .if3 .taken))
+returns-3 c =
+    let q = c .before .before .before .before in
+    let p = q .before .before .before .before in
+    let v = turn-of p .loop .inv in
+    told-deep _ _ _ _ _ _ (deepens-right (v .0) (chosen p) (q .before .before .m2 .given .1) (q .open2 .ensures) (c .if3 .taken))
 
 mul-p-2 : tie.Need-mul-p-2 Inv-loop μ-loop
-mul-p-2 c = omega (arith, c .before .before .before .before .before .before .before .before .before .before .top-index .ensures .1)
+mul-p-2 c = let p = c .before .before .before .before .before .before .before .before in omega (arith, p .before .before .top-index .ensures .1)
 
 element-set-from-p-2 : tie.Need-element-set-from-p-2 Inv-loop μ-loop
-element-set-from-p-2 c = omega (arith, c .before .before .before .before .before .before .before .before .before .before .top-index .ensures .1)
+element-set-from-p-2 c = let p = c .before .before .before .before .before .before .before .before in omega (arith, p .before .before .top-index .ensures .1)
 
 mul-e-2 : tie.Need-mul-e-2 Inv-loop μ-loop
-mul-e-2 c = let o = opened-order (heap (c .before .before .before .before .before .before .before .before .before .before .before .before .before .before .before .before .before .before .before .before .before .args .b .now)) (c .before .before .before .before .before .before .m2 .given .0 .0) (c .before .before .before .before .before .before .before .before .before .before .top-index .result) (c .before .before .before .before .open2 .result) (c .before .before .before .before .open2 .ensures) in omega (arith, c .if3 .left)
+mul-e-2 c = omega (arith, in-order-2 (c .before .before .before .before), c .if3 .left)
 
 element-set-from-e-2 : tie.Need-element-set-from-e-2 Inv-loop μ-loop
-element-set-from-e-2 c = let o = opened-order (heap (c .before .before .before .before .before .before .before .before .before .before .before .before .before .before .before .before .before .before .before .before .before .args .b .now)) (c .before .before .before .before .before .before .m2 .given .0 .0) (c .before .before .before .before .before .before .before .before .before .before .top-index .result) (c .before .before .before .before .open2 .result) (c .before .before .before .before .open2 .ensures) in omega (arith, c .if3 .left)
+element-set-from-e-2 c = omega (arith, in-order-2 (c .before .before .before .before), c .if3 .left)
 
 mul-q-2 : tie.Need-mul-q-2 Inv-loop μ-loop
 mul-q-2 c = omega (arith, c .if3 .left)
@@ -189,19 +225,29 @@ loop-less-2 : tie.Need-loop-less-2 Inv-loop μ-loop
 loop-less-2 c = omega arith
 
 loop-again-2 : tie.Need-loop-again-2 Inv-loop μ-loop
-loop-again-2 c = let v = c .before .before .before .before .before .before .before .before .before .before .before .before .before .before .loop .inv in let p = (c .before .before .before .before .before .before .before .before) in (goes-right (v .0) (chosen p) (c .before .before .before .before .before .before .m2 .given .1) (c .before .before .before .before .open2 .ensures) (c .if3 .left), omega (arith, v .1), v .2)
+loop-again-2 c =
+    let q = c .before .before .before .before in
+    let p = q .before .before .before .before in
+    let v = turn-of p .loop .inv in
+    (goes-right (v .0) (chosen p) (q .before .before .m2 .given .1) (q .open2 .ensures) (c .if3 .left), omega (arith, v .1), v .2)
 
 enum-known-i : tie.Need-enum-known-i Inv-loop μ-loop
 enum-known-i c = search needs
 
 sub-l : tie.Need-sub-l Inv-loop μ-loop
-sub-l c = let v = c .before .before .before .before .before .before .before .before .before .loop .inv in let p = (c .before .before .before) in omega (arith, fitting (v .0) (chosen p) (c .before .i .given .1) .0, c .before .before .before .before .before .before .before .if1 .left)
+sub-l c =
+    let p = c .before .before .before in
+    let v = turn-of p .loop .inv in
+    omega (arith, fitting (v .0) (chosen p) (c .before .i .given .1) .0, (chosen p) .some)
 
 loop-less-3 : tie.Need-loop-less-3 Inv-loop μ-loop
 loop-less-3 c = omega arith
 
 loop-again-3 : tie.Need-loop-again-3 Inv-loop μ-loop
-loop-again-3 c = let v = c .before .before .before .before .before .before .before .before .before .loop .inv in let p = (c .before .before .before) in (goes-down (v .0) (chosen p) (c .before .i .given .1), omega (arith, v .1), v .2)
+loop-again-3 c =
+    let p = c .before .before .before in
+    let v = turn-of p .loop .inv in
+    (goes-down (v .0) (chosen p) (c .before .i .given .1), omega (arith, v .1), v .2)
 
 enum-known-y : tie.Need-enum-known-y Inv-loop μ-loop
 enum-known-y c = search needs
@@ -210,20 +256,31 @@ pops-requires : tie.Need-pops-requires Inv-loop μ-loop
 pops-requires c κs = tt
 
 sub-r : tie.Need-sub-r Inv-loop μ-loop
-sub-r c = let v = c .before .before .before .before .before .before .before .before .before .before .loop .inv in let p = (c .before .before .before .before) in omega (arith, fitting (v .0) (chosen p) (c .before .before .y .given .1), c .pops .ensures)
+sub-r c =
+    let p = c .before .before .before .before in
+    let v = turn-of p .loop .inv in
+    omega (arith, fitting (v .0) (chosen p) (c .before .before .y .given .1), c .pops .ensures)
 
 show-requires : tie.Need-show-requires Inv-loop μ-loop
 show-requires c κs = tt
 
 add-n : tie.Need-add-n Inv-loop μ-loop
-add-n c = let one = counted-le (c .before .before .before .before .before .before .before .before .before .before .before .before .before .before .before .before .before .before .before .before .before .args .wanted) (row (c .before .before .before .before .before .before .y .given .0 .0)) in omega (arith, c .before .before .before .before .before .before .before .before .before .before .before .before .before .before .loop .inv .1, c .before .before .show .ensures .0)
+add-n c =
+    let p = c .before .before .before .before .before .before .before .before in
+    let v = turn-of p .loop .inv in
+    let one = counted-le (entry-of p .args .wanted) (row (c .before .before .before .before .before .before .y .given .0 .0)) in
+    omega (arith, v .1, c .before .before .show .ensures .0)
 
 loop-less-4 : tie.Need-loop-less-4 Inv-loop μ-loop
 loop-less-4 c = omega arith
 
 loop-again-4 : tie.Need-loop-again-4 Inv-loop μ-loop
-loop-again-4 c = let v = c .before .before .before .before .before .before .before .before .before .before .before .before .before .before .loop .inv in let p = (c .before .before .before .before .before .before .before .before) in let s = c .before .before .show in
-    let one = counted-le (c .before .before .before .before .before .before .before .before .before .before .before .before .before .before .before .before .before .before .before .before .before .args .wanted) (row (c .before .before .before .before .before .before .y .given .0 .0)) in (goes-on (v .0) (chosen p) (c .before .before .before .before .before .before .y .given .1) (c .before .before .before .before .pops .ensures) (s .ensures .0) (s .ensures .1), omega (arith, v .1, s .ensures .0), s .kept .0 ∙ v .2)
+loop-again-4 c =
+    let p = c .before .before .before .before .before .before .before .before in
+    let v = turn-of p .loop .inv in
+    let s = c .before .before .show in
+    let one = counted-le (entry-of p .args .wanted) (row (c .before .before .before .before .before .before .y .given .0 .0)) in
+    (goes-on (v .0) (chosen p) (c .before .before .before .before .before .before .y .given .1) (c .before .before .before .before .pops .ensures) (s .ensures .0) (s .ensures .1), omega (arith, v .1, s .ensures .0), s .kept .0 ∙ v .2)
 
 same-length-4 : tie.Need-same-length-4 Inv-loop μ-loop
 same-length-4 c = c .before .loop .inv .2
