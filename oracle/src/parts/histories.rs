@@ -1,0 +1,50 @@
+//! Random histories over sixteen versions, judged after every call.
+
+use super::{Compared, Effort};
+use crate::call::Call;
+use crate::history::{Keys, Mix, Trio};
+use crate::random::Random;
+
+/// Few nodes for many versions: room is often short.
+pub fn small(effort: Effort) -> Compared {
+    effort.each(1500, |random| {
+        let n = 32 * (1 + random.below(3));
+        let keys = if random.once_in(4) { Keys::Any } else { Keys::Below(2 + random.below(40)) };
+        let mix = Mix { versions: 1 + random.below(16), keys, illegal: 200 };
+        history(random, n, mix, 150)
+    })
+}
+
+/// Trees of hundreds of entries: rotations, joins and splits at depth.
+pub fn large(effort: Effort) -> Compared {
+    effort.each(12, |random| {
+        let n = random.pick(&[512, 2048, 4096]);
+        let keys = if random.once_in(2) { Keys::Any } else { Keys::Below(n / 2) };
+        let mix = Mix { versions: 2 + random.below(4), keys, illegal: 500 };
+        history(random, n, mix, 400)
+    })
+}
+
+fn history(random: &mut Random, n: usize, mix: Mix, calls: usize) -> Compared {
+    let mut trio = Trio::fresh(n);
+    let mut compared = 0;
+    for _ in 0..calls {
+        let call = if random.once_in(3) { mix.question(random, n) } else { mix.edit(random) };
+        trio.step(&call)?;
+        compared += 1;
+    }
+    Ok(compared + closing(random, &mut trio, mix)?)
+}
+
+/// At the end every version is listed whole, alone and against another.
+fn closing(random: &mut Random, trio: &mut Trio, mix: Mix) -> Compared {
+    let room = 4 * trio.table.n;
+    for left in 0..mix.versions as u32 {
+        let right = random.below(16) as u32;
+        for (left, right) in [(left, right), (right, left)] {
+            trio.step(&Call::List { left, right, start: 0, room })?;
+        }
+        trio.step(&Call::Size { version: left })?;
+    }
+    Ok(3 * mix.versions as u64)
+}
