@@ -2,6 +2,7 @@
 
 use crate::call::{Call, Reply};
 use crate::frame::Frame;
+use std::sync::atomic::{AtomicU64, Ordering};
 
 #[link(name = "switch", kind = "static")]
 extern "C" {
@@ -47,10 +48,16 @@ pub fn parse(line: &[u8]) -> (u32, Frame) {
     (number, f)
 }
 
+/// How often each number was answered: a comparison that never meets one compares less than it says.
+pub static ANSWERS: [AtomicU64; 10] = [const { AtomicU64::new(0) }; 10];
+
 /// Runs a call. Fields that an export does not have stay zero.
 pub fn run(block: &mut [u32], inbox: &mut [u32], call: &Call) -> Reply {
     let mut reply = call.blank();
     reply.number = number(block, inbox, call, &mut reply);
+    if let Some(times) = ANSWERS.get(reply.number as usize) {
+        times.fetch_add(1, Ordering::Relaxed);
+    }
     reply
 }
 

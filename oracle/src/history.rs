@@ -114,6 +114,10 @@ impl Mix {
         if random.once_in(self.illegal) { random.pick(&[2, u32::MAX]) } else { random.below(2) as u32 }
     }
 
+    pub fn insert(self, random: &mut Random, version: u32) -> Call {
+        Call::Insert { dest: version, source: version, key: self.key(random), value: self.value(random) }
+    }
+
     /// An edit. Inserts lead, so that trees grow until room is short.
     pub fn edit(self, random: &mut Random) -> Call {
         let dest = self.version(random);

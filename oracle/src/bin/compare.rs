@@ -1,7 +1,9 @@
 //! Compares the exported calls with the original and with document 01. Usage: compare [seed] [times]
 
+use oracle::exports::ANSWERS;
 use oracle::parts::{cases, damage, exhaustive, histories, limits, lines, link, room, uneven, Compared, Effort};
 use std::process::ExitCode;
+use std::sync::atomic::Ordering;
 use std::time::Instant;
 
 const PARTS: [(&str, fn(Effort) -> Compared); 12] = [
@@ -36,6 +38,12 @@ fn main() -> ExitCode {
                 println!("{name:50} FAILED: {what}");
             }
         }
+    }
+    let answers = ANSWERS.each_ref().map(|times| times.load(Ordering::Relaxed));
+    println!("answers by number, 0 to 9: {answers:?}");
+    if answers.contains(&0) {
+        failed += 1;
+        println!("FAILED: a number was never answered");
     }
     println!("{passed} passed, {failed} failed");
     if failed == 0 { ExitCode::SUCCESS } else { ExitCode::FAILURE }

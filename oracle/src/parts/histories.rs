@@ -7,33 +7,38 @@ use crate::random::Random;
 
 /// Few nodes for many versions: room is often short.
 pub fn small(effort: Effort) -> Compared {
-    effort.each(1500, |random| {
+    effort.each(6000, |random| {
         let n = 32 * (1 + random.below(3));
         let keys = if random.once_in(4) { Keys::Any } else { Keys::Below(2 + random.below(40)) };
         let mix = Mix { versions: 1 + random.below(16), keys, illegal: 200 };
-        history(random, n, mix, 150)
+        history(random, &mut Trio::fresh(n), mix, 150)
     })
 }
 
 /// Trees of hundreds of entries: rotations, joins and splits at depth.
 pub fn large(effort: Effort) -> Compared {
-    effort.each(12, |random| {
-        let n = random.pick(&[512, 2048, 4096]);
+    effort.each(30, |random| {
+        let n = random.pick(&[1024, 2048, 4096]);
         let keys = if random.once_in(2) { Keys::Any } else { Keys::Below(n / 2) };
         let mix = Mix { versions: 2 + random.below(4), keys, illegal: 500 };
-        history(random, n, mix, 400)
+        let mut trio = Trio::fresh(n);
+        let grown = n / 4;
+        for _ in 0..grown {
+            trio.step(&mix.insert(random, 0))?;
+        }
+        Ok(grown as u64 + history(random, &mut trio, mix, 300)?)
     })
 }
 
-fn history(random: &mut Random, n: usize, mix: Mix, calls: usize) -> Compared {
-    let mut trio = Trio::fresh(n);
+fn history(random: &mut Random, trio: &mut Trio, mix: Mix, calls: usize) -> Compared {
+    let n = trio.table.n;
     let mut compared = 0;
     for _ in 0..calls {
         let call = if random.once_in(3) { mix.question(random, n) } else { mix.edit(random) };
         trio.step(&call)?;
         compared += 1;
     }
-    Ok(compared + closing(random, &mut trio, mix)?)
+    Ok(compared + closing(random, trio, mix)?)
 }
 
 /// At the end every version is listed whole, alone and against another.

@@ -5,7 +5,7 @@ use super::{Compared, Effort};
 use crate::call::Call;
 use crate::exports;
 use crate::frame::{Frame, LINE};
-use crate::history::{Keys, Mix, Trio};
+use crate::history::Trio;
 use crate::original::Map;
 use crate::plain::NO_ROOM;
 use crate::random::Random;
@@ -19,21 +19,29 @@ fn entries(map: &Map) -> Entries {
 
 const A: u32 = 0;
 const B: u32 = 1;
+const KEYS: usize = 40;
 
-/// A primary with the versions A and B, which share much, little or nothing.
-fn primary(random: &mut Random, n: usize, mix: Mix) -> Result<Trio, String> {
+fn put(random: &mut Random, trio: &mut Trio, version: u32) -> Result<(), String> {
+    let (key, value) = (random.below(KEYS) as u32, random.below(3) as u32);
+    trio.step(&Call::Insert { dest: version, source: version, key, value }).map(drop)
+}
+
+fn remove(random: &mut Random, trio: &mut Trio, version: u32) -> Result<(), String> {
+    trio.step(&Call::Remove { dest: version, source: version, key: random.below(KEYS) as u32 }).map(drop)
+}
+
+/// A primary with the versions A and B. B is a changed copy of A, or built apart; either may be empty.
+fn primary(random: &mut Random, n: usize) -> Result<Trio, String> {
     let mut trio = Trio::fresh(n);
-    for _ in 0..random.below(60) {
-        trio.step(&mix.edit(random))?;
+    for _ in 0..random.below(50) {
+        put(random, &mut trio, A)?;
     }
     if random.once_in(2) {
         trio.step(&Call::Copy { dest: B, source: A })?;
-        for _ in 0..random.below(8) {
-            let (key, value) = (random.below(40) as u32, random.below(3) as u32);
-            let put = Call::Insert { dest: B, source: B, key, value };
-            let remove = Call::Remove { dest: B, source: B, key };
-            trio.step(if random.once_in(3) { &remove } else { &put })?;
-        }
+    }
+    for _ in 0..random.below(30) {
+        put(random, &mut trio, B)?;
+        remove(random, &mut trio, B)?;
     }
     Ok(trio)
 }
@@ -132,10 +140,9 @@ fn arriving(random: &mut Random, line: &[u8]) -> Vec<u8> {
 }
 
 fn one(random: &mut Random) -> Compared {
-    let n = 32 * (2 + random.below(6));
-    let mix = Mix { versions: 2, keys: Keys::Below(40), illegal: usize::MAX };
+    let n = 32 * (3 + random.below(6));
     let batch = random.word();
-    let mut primary = primary(random, n, mix)?;
+    let mut primary = primary(random, n)?;
     let lines = lines(random, &mut primary, batch)?;
     let mut standby = Standby::new(random, n, &primary, lines.len() as u32, batch)?;
     standby.hear(&lines[0])?;
@@ -156,5 +163,5 @@ fn one(random: &mut Random) -> Compared {
 }
 
 pub fn sent(effort: Effort) -> Compared {
-    effort.each(600, one)
+    effort.each(1500, one)
 }

@@ -33,7 +33,7 @@ fn both(random: &mut Random, table: &Table, call: &Call, made: usize) -> Compare
 }
 
 pub fn exact(effort: Effort) -> Compared {
-    effort.each(400, |random| {
+    effort.each(2000, |random| {
         let n = 32 * (4 + random.below(4));
         let bound = 8 + random.below(40);
         let mix = Mix { versions: 3, keys: Keys::Below(bound), illegal: usize::MAX };

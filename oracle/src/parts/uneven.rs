@@ -70,7 +70,7 @@ pub fn table(random: &mut Random, n: usize, versions: usize, bound: usize) -> Ta
 
 /// Edits of uneven trees.
 pub fn edits(effort: Effort) -> Compared {
-    effort.each(2500, |random| {
+    effort.each(10_000, |random| {
         let n = 32 * (1 + random.below(8));
         let versions = 2 + random.below(3);
         let bound = 8 + random.below(2 * n);
@@ -87,7 +87,7 @@ pub fn edits(effort: Effort) -> Compared {
 /// Listings and deltas of deep trees: TOO_DEEP exactly when a walk has more than 64 pending on one side.
 pub fn depths(effort: Effort) -> Compared {
     let deep = std::cell::Cell::new(0u64);
-    let compared = effort.each(2000, |random| {
+    let compared = effort.each(4000, |random| {
         let n = 32 * (5 + random.below(8));
         let bound = n + random.below(n);
         let mut trio = Trio::of(table(random, n, 3, bound));
