@@ -20,7 +20,7 @@ impl Frame {
         format!("{batch:08x}{index:04x}{count:04x}{kind:02x}{key:08x}{value:08x}\n").into_bytes()
     }
 
-    fn legal(&self) -> bool {
+    pub fn legal(&self) -> bool {
         let placed = (1..=4096).contains(&self.count) && self.index < self.count;
         match self.kind {
             0 => placed && self.count == 1 && self.key == 0 && self.value == 0,

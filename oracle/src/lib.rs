@@ -3,6 +3,7 @@
 pub mod block;
 pub mod call;
 pub mod exports;
+pub mod fast;
 pub mod frame;
 pub mod history;
 pub mod original;

@@ -163,5 +163,5 @@ fn one(random: &mut Random) -> Compared {
 }
 
 pub fn sent(effort: Effort) -> Compared {
-    effort.each(1500, one)
+    effort.each(800, one)
 }
