@@ -2,19 +2,63 @@
 
 #[derive(Clone, Debug)]
 pub enum Call {
-    Lookup { version: u32, key: u32 },
-    Size { version: u32 },
-    Insert { dest: u32, source: u32, key: u32, value: u32 },
-    Remove { dest: u32, source: u32, key: u32 },
-    Copy { dest: u32, source: u32 },
-    Clear { version: u32 },
-    Union { dest: u32, left: u32, right: u32, rule: u32 },
-    Difference { dest: u32, left: u32, right: u32, rule: u32, cancel: u32 },
+    Lookup {
+        version: u32,
+        key: u32,
+    },
+    Size {
+        version: u32,
+    },
+    Insert {
+        dest: u32,
+        source: u32,
+        key: u32,
+        value: u32,
+    },
+    Remove {
+        dest: u32,
+        source: u32,
+        key: u32,
+    },
+    Copy {
+        dest: u32,
+        source: u32,
+    },
+    Clear {
+        version: u32,
+    },
+    Union {
+        dest: u32,
+        left: u32,
+        right: u32,
+        rule: u32,
+    },
+    Difference {
+        dest: u32,
+        left: u32,
+        right: u32,
+        rule: u32,
+        cancel: u32,
+    },
     /// `room` is the output's length in words.
-    List { left: u32, right: u32, start: u32, room: usize },
+    List {
+        left: u32,
+        right: u32,
+        start: u32,
+        room: usize,
+    },
     /// `room` is the output's length in bytes.
-    Frames { from: u32, to: u32, batch: u32, start: u32, room: usize },
-    Receive { version: u32, line: Vec<u8> },
+    Frames {
+        from: u32,
+        to: u32,
+        batch: u32,
+        start: u32,
+        room: usize,
+    },
+    Receive {
+        version: u32,
+        line: Vec<u8>,
+    },
 }
 
 /// The number, two fields in the order of the export's pointers, and the whole output: what was not written keeps its pattern.
@@ -42,8 +86,12 @@ impl Call {
 
     pub fn versions(&self) -> Vec<u32> {
         match *self {
-            Call::Lookup { version, .. } | Call::Size { version } | Call::Clear { version } | Call::Receive { version, .. } => vec![version],
-            Call::Insert { dest, source, .. } | Call::Remove { dest, source, .. } | Call::Copy { dest, source } => vec![dest, source],
+            Call::Lookup { version, .. } | Call::Size { version } | Call::Clear { version } | Call::Receive { version, .. } => {
+                vec![version]
+            }
+            Call::Insert { dest, source, .. } | Call::Remove { dest, source, .. } | Call::Copy { dest, source } => {
+                vec![dest, source]
+            }
             Call::Union { dest, left, right, .. } | Call::Difference { dest, left, right, .. } => vec![dest, left, right],
             Call::List { left, right, .. } => vec![left, right],
             Call::Frames { from, to, .. } => vec![from, to],

@@ -9,17 +9,66 @@ extern "C" {
     fn ksk_fresh(block: *mut u32, words: usize, n: u32) -> u32;
     fn ksk_lookup(block: *const u32, words: usize, version: u32, key: u32, found: *mut u32, value: *mut u32) -> u32;
     fn ksk_size(block: *const u32, words: usize, version: u32, size: *mut u32) -> u32;
-    fn ksk_insert(block: *mut u32, words: usize, dest: u32, source: u32, key: u32, value: u32, had: *mut u32, old: *mut u32) -> u32;
+    fn ksk_insert(
+        block: *mut u32,
+        words: usize,
+        dest: u32,
+        source: u32,
+        key: u32,
+        value: u32,
+        had: *mut u32,
+        old: *mut u32,
+    ) -> u32;
     fn ksk_remove(block: *mut u32, words: usize, dest: u32, source: u32, key: u32, had: *mut u32, old: *mut u32) -> u32;
     fn ksk_copy(block: *mut u32, words: usize, dest: u32, source: u32) -> u32;
     fn ksk_clear(block: *mut u32, words: usize, version: u32) -> u32;
     fn ksk_union(block: *mut u32, words: usize, dest: u32, left: u32, right: u32, rule: u32) -> u32;
     fn ksk_difference(block: *mut u32, words: usize, dest: u32, left: u32, right: u32, rule: u32, cancel: u32) -> u32;
-    fn ksk_list(block: *const u32, words: usize, left: u32, right: u32, start: u32, out: *mut u32, room: usize, written: *mut u32, total: *mut u32) -> u32;
-    fn ksk_frames(block: *const u32, words: usize, from: u32, to: u32, batch: u32, start: u32, out: *mut u8, room: usize, written: *mut u32, total: *mut u32) -> u32;
-    fn ksk_parse(line: *const u8, bytes: usize, batch: *mut u32, index: *mut u32, count: *mut u32, kind: *mut u32, key: *mut u32, value: *mut u32) -> u32;
+    fn ksk_list(
+        block: *const u32,
+        words: usize,
+        left: u32,
+        right: u32,
+        start: u32,
+        out: *mut u32,
+        room: usize,
+        written: *mut u32,
+        total: *mut u32,
+    ) -> u32;
+    fn ksk_frames(
+        block: *const u32,
+        words: usize,
+        from: u32,
+        to: u32,
+        batch: u32,
+        start: u32,
+        out: *mut u8,
+        room: usize,
+        written: *mut u32,
+        total: *mut u32,
+    ) -> u32;
+    fn ksk_parse(
+        line: *const u8,
+        bytes: usize,
+        batch: *mut u32,
+        index: *mut u32,
+        count: *mut u32,
+        kind: *mut u32,
+        key: *mut u32,
+        value: *mut u32,
+    ) -> u32;
     fn ksk_begin(inbox: *mut u32, words: usize, batch: u32) -> u32;
-    fn ksk_receive(block: *mut u32, words: usize, inbox: *mut u32, inbox_words: usize, version: u32, line: *const u8, bytes: usize, repeat: *mut u32, missing: *mut u32) -> u32;
+    fn ksk_receive(
+        block: *mut u32,
+        words: usize,
+        inbox: *mut u32,
+        inbox_words: usize,
+        version: u32,
+        line: *const u8,
+        bytes: usize,
+        repeat: *mut u32,
+        missing: *mut u32,
+    ) -> u32;
     fn ksk_missing(inbox: *const u32, words: usize, missing: *mut u32) -> u32;
 }
 

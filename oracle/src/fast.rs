@@ -53,7 +53,10 @@ pub fn read_line(line: &[u8]) -> Option<Frame> {
 
 /// Puts, then removes, by the original's own walk.
 fn changes(from: &Map, to: &Map) -> Vec<Change> {
-    let puts = to.difference_entries(from).filter(|(_, value, other)| *other != Some(*value)).map(|(key, value, _)| Change::Put(key, *value));
+    let puts = to
+        .difference_entries(from)
+        .filter(|(_, value, other)| *other != Some(*value))
+        .map(|(key, value, _)| Change::Put(key, *value));
     let removes = from.difference_entries(to).filter(|(_, _, other)| other.is_none()).map(|(key, _, _)| Change::Remove(key));
     puts.chain(removes).collect()
 }

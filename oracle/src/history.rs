@@ -111,7 +111,11 @@ impl Mix {
     }
 
     fn cancel(self, random: &mut Random) -> u32 {
-        if random.once_in(self.illegal) { random.pick(&[2, u32::MAX]) } else { random.below(2) as u32 }
+        if random.once_in(self.illegal) {
+            random.pick(&[2, u32::MAX])
+        } else {
+            random.below(2) as u32
+        }
     }
 
     pub fn insert(self, random: &mut Random, version: u32) -> Call {

@@ -35,7 +35,8 @@ pub fn edit(maps: &mut [Map], call: &Call) -> Option<u32> {
         Call::Difference { dest, left, right, rule, cancel } => {
             let (left, right) = (&maps[left as usize], &maps[right as usize]);
             let by_rule = |_: &u32, l, r| reduced(rule, l, r);
-            maps[dest as usize] = if cancel == 1 { left.difference_shared(right, by_rule) } else { left.difference(right, by_rule) };
+            maps[dest as usize] =
+                if cancel == 1 { left.difference_shared(right, by_rule) } else { left.difference(right, by_rule) };
             None
         }
         _ => unreachable!("not an edit"),
@@ -75,7 +76,11 @@ pub fn follow(maps: &mut [Map], call: &Call, reply: &Reply) -> Result<(), String
 }
 
 fn same<T: PartialEq + std::fmt::Debug>(what: &str, original: T, export: T) -> Result<(), String> {
-    if original == export { Ok(()) } else { Err(format!("{what}: original {original:?}, export {export:?}")) }
+    if original == export {
+        Ok(())
+    } else {
+        Err(format!("{what}: original {original:?}, export {export:?}"))
+    }
 }
 
 /// Shape and sharing over all versions: keys, values and sizes node by node, and node numbers and addresses one to one.
@@ -90,7 +95,10 @@ pub fn alike(words: &[u32], maps: &[Map]) -> Result<usize, String> {
             same("empty tree", 0, number)?;
             continue;
         };
-        let known = address_of.get_mut(number as usize).filter(|_| number != 0).ok_or(format!("link {number} to a node of the original"))?;
+        let known = address_of
+            .get_mut(number as usize)
+            .filter(|_| number != 0)
+            .ok_or(format!("link {number} to a node of the original"))?;
         if *known == 0 {
             *known = spot.address();
             same("number of an address", None, number_of.insert(spot.address(), number))?;

@@ -13,7 +13,11 @@ fn link_ok(block: Block, link: u32) -> bool {
 }
 
 fn size(block: Block, link: u32) -> u64 {
-    if link == 0 { 0 } else { block.node(link).size as u64 }
+    if link == 0 {
+        0
+    } else {
+        block.node(link).size as u64
+    }
 }
 
 fn node_ok(block: Block, number: u32) -> bool {
@@ -36,27 +40,34 @@ fn between(block: Block, link: u32, least: u64, most: u64) -> bool {
     least < key && key < most && between(block, node.left, least, key) && between(block, node.right, key, most)
 }
 
-fn counts(block: Block) -> Vec<u32> {
+fn numbers(block: Block) -> impl Iterator<Item = u32> {
+    1..=block.n() as u32
+}
+
+fn linked(block: Block) -> bool {
+    (0..16).all(|version| link_ok(block, block.root(version))) && numbers(block).all(|number| node_ok(block, number))
+}
+
+fn ordered(block: Block) -> bool {
+    numbers(block).filter(|&number| block.occupied(number)).all(|number| between(block, number, 0, 1 << 33))
+}
+
+fn counted(block: Block) -> bool {
     let mut counts = vec![0; block.n() + 1];
     (0..16).for_each(|version| counts[block.root(version) as usize] += 1);
-    for number in 1..=block.n() as u32 {
-        let node = block.node(number);
+    for node in numbers(block).map(|number| block.node(number)) {
         counts[node.left as usize] += 1;
         counts[node.right as usize] += 1;
     }
-    counts
-}
-
-fn sound(block: Block) -> bool {
-    let all = 1..=block.n() as u32;
-    let counted = |number: u32, counts: &[u32]| {
+    numbers(block).all(|number| {
         let count = block.node(number).count;
         count == counts[number as usize] && (count >= 1) == block.occupied(number)
-    };
-    (0..16).all(|version| link_ok(block, block.root(version)))
-        && all.clone().all(|number| node_ok(block, number))
-        && all.clone().all(|number| between(block, number * block.occupied(number) as u32, 0, 1 << 33))
-        && { let counts = counts(block); all.clone().all(|number| counted(number, &counts)) }
+    })
+}
+
+/// Links first, so that the other two stay in bounds and end.
+fn sound(block: Block) -> bool {
+    linked(block) && ordered(block) && counted(block)
 }
 
 /// 1 SHAPE, 2 DAMAGED, 0 neither.

@@ -21,7 +21,11 @@ fn open(side: &mut Vec<Pending>) -> Result<(), TooDeep> {
     side.extend(node.right.as_deref().map(Branch));
     side.push(Entry(node.key, node.value));
     side.extend(node.left.as_deref().map(Branch));
-    if side.len() > 64 { Err(TooDeep) } else { Ok(()) }
+    if side.len() > 64 {
+        Err(TooDeep)
+    } else {
+        Ok(())
+    }
 }
 
 /// Key, left value, 1 if common, right value or 0.

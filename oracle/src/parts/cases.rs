@@ -10,7 +10,11 @@ use crate::rules::{Supply, Tree};
 use crate::table::Table;
 
 fn expect<T: PartialEq + std::fmt::Debug>(what: &str, got: T, told: T) -> Result<(), String> {
-    if got == told { Ok(()) } else { Err(format!("{what}: {got:?}, document 01 says {told:?}")) }
+    if got == told {
+        Ok(())
+    } else {
+        Err(format!("{what}: {got:?}, document 01 says {told:?}"))
+    }
 }
 
 /// Puts the keys in a version, with ten times the key as value.
@@ -31,7 +35,11 @@ fn drawn(trio: &Trio, link: u32) -> String {
         return ".".into();
     }
     let node = Block(&trio.block).node(link);
-    if node.size == 1 { format!("{}", node.key) } else { format!("{}({} {})", node.key, drawn(trio, node.left), drawn(trio, node.right)) }
+    if node.size == 1 {
+        format!("{}", node.key)
+    } else {
+        format!("{}({} {})", node.key, drawn(trio, node.left), drawn(trio, node.right))
+    }
 }
 
 fn version(trio: &Trio, version: usize) -> String {

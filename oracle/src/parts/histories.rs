@@ -7,7 +7,7 @@ use crate::random::Random;
 
 /// Few nodes for many versions: room is often short.
 pub fn small(effort: Effort) -> Compared {
-    effort.each(6000, |random| {
+    effort.each(4000, |random| {
         let n = 32 * (1 + random.below(3));
         let keys = if random.once_in(4) { Keys::Any } else { Keys::Below(2 + random.below(40)) };
         let mix = Mix { versions: 1 + random.below(16), keys, illegal: 200 };
@@ -41,15 +41,19 @@ fn history(random: &mut Random, trio: &mut Trio, mix: Mix, calls: usize) -> Comp
     Ok(compared + closing(random, trio, mix)?)
 }
 
-/// At the end every version is listed whole, alone and against another.
+/// At the end every version is listed whole, against another and the other way round, and asked for each key of a small range.
 fn closing(random: &mut Random, trio: &mut Trio, mix: Mix) -> Compared {
     let room = 4 * trio.table.n;
-    for left in 0..mix.versions as u32 {
-        let right = random.below(16) as u32;
-        for (left, right) in [(left, right), (right, left)] {
-            trio.step(&Call::List { left, right, start: 0, room })?;
+    let mut calls = vec![];
+    for version in 0..mix.versions as u32 {
+        let other = random.below(16) as u32;
+        calls.push(Call::Size { version });
+        calls.push(Call::List { left: version, right: other, start: 0, room });
+        calls.push(Call::List { left: other, right: version, start: 0, room });
+        if let Keys::Below(bound @ ..=40) = mix.keys {
+            calls.extend((0..=bound as u32).map(|key| Call::Lookup { version, key }));
         }
-        trio.step(&Call::Size { version: left })?;
     }
-    Ok(3 * mix.versions as u64)
+    calls.iter().try_for_each(|call| trio.step(call).map(drop))?;
+    Ok(calls.len() as u64)
 }

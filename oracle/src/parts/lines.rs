@@ -9,7 +9,11 @@ fn compare(line: &[u8]) -> Result<(), String> {
     let zeros = Frame { batch: 0, index: 0, count: 0, kind: 0, key: 0, value: 0 };
     let expected = Frame::parse(line).map_or((7, zeros), |frame| (0, frame));
     let told = exports::parse(line);
-    if told == expected { Ok(()) } else { Err(format!("line {:?}: {told:?}, not {expected:?}", String::from_utf8_lossy(line))) }
+    if told == expected {
+        Ok(())
+    } else {
+        Err(format!("line {:?}: {told:?}, not {expected:?}", String::from_utf8_lossy(line)))
+    }
 }
 
 /// A frame whose fields stand at, just inside or just outside their limits.

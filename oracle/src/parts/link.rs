@@ -117,7 +117,11 @@ impl Standby {
     }
 
     fn judge(&self, holds: bool, what: &str) -> Result<(), String> {
-        if holds { Ok(()) } else { Err(format!("{what}; {} of {} accepted", self.accepted.len(), self.count)) }
+        if holds {
+            Ok(())
+        } else {
+            Err(format!("{what}; {} of {} accepted", self.accepted.len(), self.count))
+        }
     }
 }
 
@@ -133,7 +137,11 @@ fn arriving(random: &mut Random, line: &[u8]) -> Vec<u8> {
         4 => {
             let mut line = Frame { batch: frame.batch ^ 1, ..frame }.line();
             line[random.below(LINE)] = random.word() as u8;
-            if Frame::parse(&line).is_some_and(|f| f.batch == frame.batch) { vec![] } else { line }
+            if Frame::parse(&line).is_some_and(|f| f.batch == frame.batch) {
+                vec![]
+            } else {
+                line
+            }
         }
         _ => line.to_vec(),
     }

@@ -99,5 +99,9 @@ pub fn depths(effort: Effort) -> Compared {
         Ok(12)
     })?;
     // Both answers must occur, or the part compares less than it says.
-    if deep.get() == 0 || deep.get() == compared { Err(format!("{} of {compared} walks were too deep", deep.get())) } else { Ok(compared) }
+    if deep.get() == 0 || deep.get() == compared {
+        Err(format!("{} of {compared} walks were too deep", deep.get()))
+    } else {
+        Ok(compared)
+    }
 }
