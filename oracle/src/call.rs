@@ -70,16 +70,17 @@ pub struct Reply {
     pub bytes: Vec<u8>,
 }
 
-/// What an output holds before a call.
-pub const WORD: u32 = 0xa5a5_5a5a;
-pub const BYTE: u8 = 0xa5;
+/// What an output holds before a call, and how much of it stands behind the part that is lent.
+const WORD: u32 = 0xa5a5_5a5a;
+const BYTE: u8 = 0xa5;
+const BEHIND: usize = 40;
 
 impl Call {
     /// The reply of a call that has written nothing yet.
     pub fn blank(&self) -> Reply {
         match *self {
-            Call::List { room, .. } => Reply { words: vec![WORD; room], ..Reply::default() },
-            Call::Frames { room, .. } => Reply { bytes: vec![BYTE; room], ..Reply::default() },
+            Call::List { room, .. } => Reply { words: vec![WORD; room + BEHIND], ..Reply::default() },
+            Call::Frames { room, .. } => Reply { bytes: vec![BYTE; room + BEHIND], ..Reply::default() },
             _ => Reply::default(),
         }
     }

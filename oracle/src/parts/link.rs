@@ -46,12 +46,12 @@ fn primary(random: &mut Random, n: usize) -> Result<Trio, String> {
     Ok(trio)
 }
 
-/// The frames from A to B, asked for in pieces.
-fn lines(random: &mut Random, primary: &mut Trio, batch: u32) -> Result<Vec<Vec<u8>>, String> {
+/// The frames from one version to another, asked for in pieces.
+fn lines(random: &mut Random, primary: &mut Trio, from: u32, to: u32, batch: u32) -> Result<Vec<Vec<u8>>, String> {
     let mut lines: Vec<Vec<u8>> = vec![];
     loop {
         let room = LINE * (1 + random.below(5)) + random.below(LINE);
-        let reply = primary.step(&Call::Frames { from: A, to: B, batch, start: lines.len() as u32, room })?;
+        let reply = primary.step(&Call::Frames { from, to, batch, start: lines.len() as u32, room })?;
         lines.extend(reply.bytes[..reply.fields[0] as usize].chunks_exact(LINE).map(<[u8]>::to_vec));
         if lines.len() as u32 == reply.fields[1] {
             return Ok(lines);
@@ -84,10 +84,18 @@ impl Standby {
         for key in 0..random.below(n - a.len()) as u32 {
             trio.step(&Call::Insert { dest: FILLER, source: FILLER, key, value: key })?;
         }
-        if exports::begin(&mut trio.inbox, batch) != 0 || trio.inbox[0] != batch {
-            return Err("begin".into());
-        }
-        Ok(Standby { trio, version, a, b, count, accepted: BTreeSet::new() })
+        let mut standby = Standby { trio, version, a: b, b: a, count, accepted: BTreeSet::new() };
+        standby.turn(count, batch)?;
+        Ok(standby)
+    }
+
+    /// Begins the batch that leads from where the last one ended to where it began.
+    fn turn(&mut self, count: u32, batch: u32) -> Result<(), String> {
+        std::mem::swap(&mut self.a, &mut self.b);
+        self.count = count;
+        self.accepted.clear();
+        let begun = exports::begin(&mut self.trio.inbox, batch);
+        self.judge(begun == 0 && exports::missing(&self.trio.inbox) == (0, u32::MAX), "begin")
     }
 
     fn complete(&self) -> bool {
@@ -126,13 +134,13 @@ impl Standby {
 }
 
 /// What arrives of a frame's line: the line, nothing, a line of another batch or with another count, or a garbled or cut one.
-/// A garbled line that is well formed and of this batch would be a lie that no table can tell, so its batch is changed too.
-fn arriving(random: &mut Random, line: &[u8]) -> Vec<u8> {
+/// A line of this batch with a false field is a lie that no table can tell, unless an accepted line has said another count.
+fn arriving(random: &mut Random, line: &[u8], counted: bool) -> Vec<u8> {
     let frame = Frame::parse(line).unwrap();
     match random.below(12) {
         0 => vec![],
         1 => Frame { batch: frame.batch ^ 1, ..frame }.line(),
-        2 => Frame { count: frame.count + 1, kind: 1, ..frame }.line(),
+        2 if counted => Frame { count: frame.count + 1, kind: 1, ..frame }.line(),
         3 => line[..random.below(LINE)].to_vec(),
         4 => {
             let mut line = Frame { batch: frame.batch ^ 1, ..frame }.line();
@@ -147,20 +155,17 @@ fn arriving(random: &mut Random, line: &[u8]) -> Vec<u8> {
     }
 }
 
-fn one(random: &mut Random) -> Compared {
-    let n = 32 * (3 + random.below(6));
-    let batch = random.word();
-    let mut primary = primary(random, n)?;
-    let lines = lines(random, &mut primary, batch)?;
-    let mut standby = Standby::new(random, n, &primary, lines.len() as u32, batch)?;
+/// Sends lines, some of them, again and again; at last all have most likely arrived.
+fn send(random: &mut Random, standby: &mut Standby, lines: &[Vec<u8>]) -> Compared {
     standby.hear(&lines[0])?;
     let mut heard = 1;
     for _ in 0..40 {
-        let mut sent = lines.clone();
+        let mut sent = lines.to_vec();
         random.shuffle(&mut sent);
         sent.truncate(1 + random.below(lines.len()));
         for line in sent {
-            standby.hear(&arriving(random, &line))?;
+            let counted = !standby.accepted.is_empty();
+            standby.hear(&arriving(random, &line, counted))?;
             heard += 1;
         }
         if standby.complete() && random.once_in(3) {
@@ -170,6 +175,28 @@ fn one(random: &mut Random) -> Compared {
     Ok(heard)
 }
 
+/// From A to B, and once that is complete, in a batch of its own, back to A; late lines of the first batch come in between.
+fn there_and_back(random: &mut Random) -> Compared {
+    let n = 32 * (3 + random.below(6));
+    let batch = random.word();
+    let mut primary = primary(random, n)?;
+    let there = lines(random, &mut primary, A, B, batch)?;
+    let mut standby = Standby::new(random, n, &primary, there.len() as u32, batch)?;
+    let mut heard = send(random, &mut standby, &there)?;
+    if standby.complete() {
+        let mut back = lines(random, &mut primary, B, A, batch ^ 8)?;
+        standby.turn(back.len() as u32, batch ^ 8)?;
+        heard += send(random, &mut standby, &back)?;
+        back.extend(there);
+        random.shuffle(&mut back);
+        for line in &back {
+            standby.hear(line)?;
+            heard += 1;
+        }
+    }
+    Ok(heard)
+}
+
 pub fn sent(effort: Effort) -> Compared {
-    effort.each(800, one)
+    effort.each(600, there_and_back)
 }
