@@ -68,10 +68,10 @@ pub fn table(random: &mut Random, n: usize, versions: usize, bound: usize) -> Ta
     table
 }
 
-/// Edits of uneven trees.
+/// Edits of uneven trees, once in a while of chains a thousand nodes long.
 pub fn edits(effort: Effort) -> Compared {
     effort.each(10_000, |random| {
-        let n = 32 * (1 + random.below(8));
+        let n = if random.once_in(100) { 4096 } else { 32 * (1 + random.below(8)) };
         let versions = 2 + random.below(3);
         let bound = 8 + random.below(2 * n);
         let mut trio = Trio::of(table(random, n, versions, bound));
