@@ -155,14 +155,14 @@ fn arriving(random: &mut Random, line: &[u8], counted: bool) -> Vec<u8> {
     }
 }
 
-/// Sends lines, some of them, again and again; at last all have most likely arrived.
-fn send(random: &mut Random, standby: &mut Standby, lines: &[Vec<u8>]) -> Compared {
+/// Sends lines, some of them, again and again, and late ones of another batch among them; at last all have most likely arrived.
+fn send(random: &mut Random, standby: &mut Standby, lines: &[Vec<u8>], late: &[Vec<u8>]) -> Compared {
     standby.hear(&lines[0])?;
     let mut heard = 1;
     for _ in 0..40 {
-        let mut sent = lines.to_vec();
+        let mut sent = [lines, late].concat();
         random.shuffle(&mut sent);
-        sent.truncate(1 + random.below(lines.len()));
+        sent.truncate(1 + random.below(sent.len()));
         for line in sent {
             let counted = !standby.accepted.is_empty();
             standby.hear(&arriving(random, &line, counted))?;
@@ -175,24 +175,19 @@ fn send(random: &mut Random, standby: &mut Standby, lines: &[Vec<u8>]) -> Compar
     Ok(heard)
 }
 
-/// From A to B, and once that is complete, in a batch of its own, back to A; late lines of the first batch come in between.
+/// From A to B, and once that is complete, in a batch of its own, back to A. All digits of the two batch numbers differ, so that
+/// no garbled line passes for one of the other batch.
 fn there_and_back(random: &mut Random) -> Compared {
     let n = 32 * (3 + random.below(6));
     let batch = random.word();
     let mut primary = primary(random, n)?;
     let there = lines(random, &mut primary, A, B, batch)?;
     let mut standby = Standby::new(random, n, &primary, there.len() as u32, batch)?;
-    let mut heard = send(random, &mut standby, &there)?;
+    let mut heard = send(random, &mut standby, &there, &[])?;
     if standby.complete() {
-        let mut back = lines(random, &mut primary, B, A, batch ^ 8)?;
-        standby.turn(back.len() as u32, batch ^ 8)?;
-        heard += send(random, &mut standby, &back)?;
-        back.extend(there);
-        random.shuffle(&mut back);
-        for line in &back {
-            standby.hear(line)?;
-            heard += 1;
-        }
+        let back = lines(random, &mut primary, B, A, !batch)?;
+        standby.turn(back.len() as u32, !batch)?;
+        heard += send(random, &mut standby, &back, &there)?;
     }
     Ok(heard)
 }
