@@ -1,3 +1,4 @@
 pub mod Turns
 pub mod Inserts
 pub mod Finds
+pub mod Removes

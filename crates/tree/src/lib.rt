@@ -10,9 +10,10 @@ ghost use Rattle.model.specs.Tree.{lookup};
 ghost use Rattle.model.specs.Heap.{Named, Occupied, Linked, sizeAt, tree};
 ghost use Rattle.model.specs.Block.{heap, Shaped};
 ghost use Rattle.model.specs.Moves.{Running};
-ghost use Rattle.model.specs.Rules.{twice, rotateLeft, rotateRight, balanced, insertBy};
+ghost use Rattle.model.specs.Rules.{twice, rotateLeft, rotateRight, balanced, insertBy, withoutKey, removePresent};
 ghost use Rattle.block.specs.Outcome.{Outcome, answer};
 ghost use Rattle.tree.specs.Remade.{remade};
+ghost use Rattle.tree.specs.Removal.{Removal, minimum};
 
 // Rotates twice: the middle node goes to the top.
 fn twice(
@@ -126,6 +127,86 @@ pub fn insert(b: &mut [u32], fresh: bool, n: u32, key: u32, value: u32) -> Made
         return Made::Full;
     };
     remake(b, fresh, node.key, node.value, node.left, right)
+}
+
+// An entry taken out, and the node of the tree that is left.
+pub struct Rest {
+    pub key: u32,
+    pub value: u32,
+    pub node: u32,
+}
+
+// The entry that was taken out, if there was room.
+pub enum Lost {
+    Into(Rest),
+    Full,
+}
+
+// Takes the minimum out of the tree below n; the nodes above it are balanced makes.
+pub fn remove_min(b: &mut [u32], n: u32) -> Lost
+    requires { ⌜ Running (now b) × Occupied (heap (now b)) n × (sizeAt (heap (now b)) n < 1048575) ⌝ }
+    ensures { λ r. ⌜ Removal (now (b .entry)) (now (b .exit)) r (minimum (heap (now (b .entry))) n) ⌝ }
+{
+    let node = read(b, n);
+    if node.left == 0 {
+        return Lost::Into(Rest {
+            key: node.key,
+            value: node.value,
+            node: node.right,
+        });
+    }
+    let Lost::Into(min) = remove_min(b, node.left) else {
+        return Lost::Full;
+    };
+    let Made::At(top) = balanced(b, node.key, node.value, min.node, node.right) else {
+        return Lost::Full;
+    };
+    Lost::Into(Rest {
+        key: min.key,
+        value: min.value,
+        node: top,
+    })
+}
+
+// Two trees without the key between them: a sole one as it is, else the minimum of the right takes the place.
+fn without_key(b: &mut [u32], left: u32, right: u32) -> Made
+    requires { ⌜ Running (now b) × Named (heap (now b)) left × Named (heap (now b)) right × (sizeAt (heap (now b)) left + sizeAt (heap (now b)) right < 1048575) ⌝ }
+    ensures { λ r. ⌜ Outcome (now (b .entry)) (now (b .exit)) r (withoutKey balanced (tree (heap (now (b .entry))) left) (tree (heap (now (b .entry))) right)) ⌝ }
+{
+    if left == 0 {
+        return Made::At(right);
+    }
+    if right == 0 {
+        return Made::At(left);
+    }
+    let Lost::Into(min) = remove_min(b, right) else {
+        return Made::Full;
+    };
+    balanced(b, min.key, min.value, left, min.node)
+}
+
+// Remove below n, for a key that is present: its node gives way, ancestors are balanced makes.
+pub fn remove(b: &mut [u32], n: u32, key: u32) -> Made
+    requires { ⌜ Running (now b) × Named (heap (now b)) n × (sizeAt (heap (now b)) n < 1048575) ⌝ }
+    ensures { λ r. ⌜ Outcome (now (b .entry)) (now (b .exit)) r (removePresent (tree (heap (now (b .entry))) n) key) ⌝ }
+{
+    if n == 0 {
+        return Made::At(0);
+    }
+    let node = read(b, n);
+    if key == node.key {
+        return without_key(b, node.left, node.right);
+    }
+    if key < node.key {
+        let Made::At(left) = remove(b, node.left, key) else {
+            return Made::Full;
+        };
+        return balanced(b, node.key, node.value, left, node.right);
+    }
+    let Made::At(right) = remove(b, node.right, key) else {
+        return Made::Full;
+    };
+    balanced(b, node.key, node.value, node.left, right)
 }
 
 // The value under a key in the tree below `root`.

@@ -1,0 +1,116 @@
+use borrow.Author.Needs.{needs}
+use Prim.Native.Nat.{ℕ, _<_}
+use borrow.Fn.Kinds.{In, Out}
+use borrow.Fn.PlainCycle.{Measures, is, falls, and}
+use Rattle.tree.proofs.remove_min.Reads as remove-min
+use Rattle.tree.proofs.remove_min.Kinds as remove-min-kinds
+use Rattle.tree.proofs.+remove_min.Lts-remove_min as remove-min-lts
+use Rattle.block.proofs.read.Reads as read-reads
+use Rattle.tree.proofs.balanced.Reads as balanced-reads
+use Rattle.tree.proofs.+remove_min.{statement}
+use Rattle.tree.proofs.+remove_min.Tie.{close}
+use Rattle.block.proofs.read.Kinds as read-kinds
+use Rattle.tree.proofs.balanced.Kinds as balanced-kinds
+use Rattle.model.specs.Block.{heap}
+use Rattle.model.specs.Heap.{sizeAt}
+use Rattle.block.specs.declared.Made.the-variants.{At, Full}
+use Rattle.block.proofs.Outcomes.{told}
+use Rattle.block.proofs.Levels.{read-asks}
+use Rattle.tree.specs.declared.Lost.the-variants as lost
+use Rattle.tree.proofs.Inserts.{Path}
+use Rattle.tree.proofs.Removes.{lost-told, min-here, min-down, min-stop, min-asks, min-stop-2, min-last}
+
+abbrev μ-remove-min : Measures 1 remove-min-kinds.ps ℕ
+μ-remove-min κs a = sizeAt (heap (a .0 .now)) (a .1 .0)
+
+abbrev remove-min-at : ℕ → In 1 remove-min-kinds.ps
+remove-min-at t = and 1 remove-min-kinds.ps (is 1 remove-min-kinds.ps μ-remove-min t) remove-min.Pre
+
+abbrev remove-min-below : ℕ → In 1 remove-min-kinds.ps
+remove-min-below t = and 1 remove-min-kinds.ps (falls 1 remove-min-kinds.ps _<_ μ-remove-min t) remove-min.Pre
+
+abbrev calls : (t : ℕ) → In 1 read-kinds.ps × Out 1 read-kinds.ps read-kinds.r × In 1 remove-min-kinds.ps × Out 1 remove-min-kinds.ps remove-min-kinds.r × In 1 balanced-kinds.ps × Out 1 balanced-kinds.ps balanced-kinds.r
+calls t = (read-reads.Asked, read-reads.Learnt, remove-min-below t, remove-min.Post, balanced-reads.Asked, balanced-reads.Learnt)
+
+path : (t : ℕ) (c : remove-min-lts.After-read (calls t) (remove-min-at t) remove-min.Post) → Path (c .before .before .before .args .b .now) (c .before .before .before .args .n) (c .read .result)
+path t c = let p = c .before .before .before .pre .1 in record { level = record { running = p .0; occupied = p .1; is = c .read .ensures }; small = p .2 }
+
+-- src/lib.rt:150:9
+remove-min-read-requires : (t : ℕ) → remove-min-lts.Need-read-requires (calls t) (remove-min-at t) remove-min.Post
+remove-min-read-requires t c κs = let st = c .before .before in read-asks (st .args .n) (st .pre .1 .0) (st .pre .1 .1)
+
+-- src/lib.rt:152:9
+remove-min-same-length : (t : ℕ) → remove-min-lts.Need-same-length (calls t) (remove-min-at t) remove-min.Post
+remove-min-same-length t c = search needs
+
+-- src/lib.rt:152:9
+remove-min-returns : (t : ℕ) → remove-min-lts.Need-returns (calls t) (remove-min-at t) remove-min.Post
+remove-min-returns t c = min-here (path t (c .before .before)) (c .if1 .taken)
+
+-- src/lib.rt:158:27
+remove-min-remove-min-requires : (t : ℕ) → remove-min-lts.Need-remove-min-requires (calls t) (remove-min-at t) remove-min.Post
+remove-min-remove-min-requires t c κs = min-down (path t (c .before .before .before)) (c .before .if1 .left) (c .before .before .before .before .before .before .pre .0)
+
+-- src/lib.rt:158:20
+remove-min-enum-known-min : (t : ℕ) → remove-min-lts.Need-enum-known-min (calls t) (remove-min-at t) remove-min.Post
+remove-min-enum-known-min t c = search needs
+
+-- src/lib.rt:159:9
+remove-min-enum-told : (t : ℕ) → remove-min-lts.Need-enum-told (calls t) (remove-min-at t) remove-min.Post
+remove-min-enum-told t c = search needs
+
+-- src/lib.rt:159:9
+remove-min-same-length-2 : (t : ℕ) → remove-min-lts.Need-same-length-2 (calls t) (remove-min-at t) remove-min.Post
+remove-min-same-length-2 t c = search needs
+
+-- src/lib.rt:159:9
+remove-min-returns-2 : (t : ℕ) → remove-min-lts.Need-returns-2 (calls t) (remove-min-at t) remove-min.Post
+remove-min-returns-2 t c = min-stop (path t (c .before .before .before .before .before .before .before .before)) (c .before .before .before .before .before .before .if1 .left) (lost-told (c .before .before .before .before .remove-min .result) lost.Full (c .enum-told .given .1) (c .before .before .before .before .remove-min .ensures))
+
+-- src/lib.rt:161:25
+remove-min-balanced-requires : (t : ℕ) → remove-min-lts.Need-balanced-requires (calls t) (remove-min-at t) remove-min.Post
+remove-min-balanced-requires t c κs = min-asks (path t (c .before .before .before .before .before .before .before .before .before .before)) (c .before .before .before .before .before .before .before .before .if1 .left) (lost-told (c .before .before .before .before .before .before .remove-min .result) (lost.Into (c .before .before .min .given .0 .0)) (c .before .before .min .given .1) (c .before .before .before .before .before .before .remove-min .ensures))
+
+-- src/lib.rt:161:18
+remove-min-enum-known-top : (t : ℕ) → remove-min-lts.Need-enum-known-top (calls t) (remove-min-at t) remove-min.Post
+remove-min-enum-known-top t c = search needs
+
+-- src/lib.rt:162:9
+remove-min-enum-told-2 : (t : ℕ) → remove-min-lts.Need-enum-told-2 (calls t) (remove-min-at t) remove-min.Post
+remove-min-enum-told-2 t c = search needs
+
+-- src/lib.rt:162:9
+remove-min-same-length-3 : (t : ℕ) → remove-min-lts.Need-same-length-3 (calls t) (remove-min-at t) remove-min.Post
+remove-min-same-length-3 t c = search needs
+
+-- src/lib.rt:162:9
+remove-min-returns-3 : (t : ℕ) → remove-min-lts.Need-returns-3 (calls t) (remove-min-at t) remove-min.Post
+remove-min-returns-3 t c = min-stop-2 (path t (c .before .before .before .before .before .before .before .before .before .before .before .before .before .before .before)) (c .before .before .before .before .before .before .before .before .before .before .before .before .before .if1 .left) (lost-told (c .before .before .before .before .before .before .before .before .before .before .before .remove-min .result) (lost.Into (c .before .before .before .before .before .before .before .min .given .0 .0)) (c .before .before .before .before .before .before .before .min .given .1) (c .before .before .before .before .before .before .before .before .before .before .before .remove-min .ensures)) (told (c .before .before .before .before .balanced .result) Full (c .enum-told2 .given .1) (c .before .before .before .before .balanced .ensures))
+
+-- src/lib.rt:146:1
+remove-min-same-length-4 : (t : ℕ) → remove-min-lts.Need-same-length-4 (calls t) (remove-min-at t) remove-min.Post
+remove-min-same-length-4 t c = search needs
+
+-- src/lib.rt:146:1
+remove-min-returns-4 : (t : ℕ) → remove-min-lts.Need-returns-4 (calls t) (remove-min-at t) remove-min.Post
+remove-min-returns-4 t c = min-last (path t (c .before .before .before .before .before .before .before .before .before .before .before .before .before .before .before .before)) (c .before .before .before .before .before .before .before .before .before .before .before .before .before .before .if1 .left) (lost-told (c .before .before .before .before .before .before .before .before .before .before .before .before .remove-min .result) (lost.Into (c .before .before .before .before .before .before .before .before .min .given .0 .0)) (c .before .before .before .before .before .before .before .before .min .given .1) (c .before .before .before .before .before .before .before .before .before .before .before .before .remove-min .ensures)) (told (c .before .before .before .before .before .balanced .result) (At (c .before .top .given .0 .0)) (c .before .top .given .1) (c .before .before .before .before .before .balanced .ensures))
+
+pub +remove-min-spec : {M : Type 1} → statement M
++remove-min-spec = close μ-remove-min λ t. remove-min-lts.spec (calls t)
+    (remove-min-at t)
+    remove-min.Post
+    (remove-min-read-requires t)
+    (remove-min-same-length t)
+    (remove-min-returns t)
+    (remove-min-remove-min-requires t)
+    (remove-min-enum-known-min t)
+    (remove-min-enum-told t)
+    (remove-min-same-length-2 t)
+    (remove-min-returns-2 t)
+    (remove-min-balanced-requires t)
+    (remove-min-enum-known-top t)
+    (remove-min-enum-told-2 t)
+    (remove-min-same-length-3 t)
+    (remove-min-returns-3 t)
+    (remove-min-same-length-4 t)
+    (remove-min-returns-4 t)

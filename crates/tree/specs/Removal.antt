@@ -1,0 +1,30 @@
+-- What taking the minimum out of a tree gives back.
+use Prim.Native.Nat.{ℕ}
+use mathlib.Core.List.{List}
+use mathlib.Core.Option.{Option, none, some}
+use Rattle.model.specs.Supply.{Make}
+use Rattle.model.specs.Rules.{Least, removeMin}
+use Rattle.model.specs.Heap.{Heap, Named, tree}
+use Rattle.model.specs.Block.{heap}
+use Rattle.model.specs.Moves.{Came}
+use Rattle.tree.specs.declared.Lost.{Lost}
+use Rattle.tree.specs.declared.Lost.the-variants.{Into, Full}
+
+-- the rule for node n
+abbrev pub minimum : Heap → ℕ → Make Least
+minimum h n = removeMin (h .key n) (h .value n) (tree h (h .left n)) (tree h (h .right n))
+
+-- the entry taken out, and the tree that is left
+abbrev pub leastAt : Heap → Lost → Option Least
+leastAt g (Into p) = some (record { key = p .key; value = p .value; rest = tree g (p .node) })
+leastAt g Full = none
+
+-- what is left stands
+abbrev pub Remains : Heap → Lost → Type 0
+Remains g (Into p) = Named g (p .node)
+Remains g Full = Unit {0}
+
+-- b became e by the rule m: its entry and its tree are the answer, or m makes more nodes than are free in b
+pub record Removal (b e : List ℕ) (q : Lost) (m : Make Least) : Type 0 where
+  pub named : Remains (heap e) q
+  pub came : Came Least b e (leastAt (heap e) q) m
