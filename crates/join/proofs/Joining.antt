@@ -12,13 +12,17 @@ use Rattle.model.specs.Block.{heap}
 use Rattle.model.specs.Moves.{Running}
 use Rattle.model.proofs.Loads.{tree-size}
 use Rattle.model.proofs.Sizes.{join-size}
-use Rattle.model.proofs.Steady.{Onward, onward, balanced-steady}
+use Rattle.model.proofs.Steady.{Onward, onward, join-steady}
 use Rattle.block.specs.declared.Made.{Made}
 use Rattle.block.specs.declared.Made.the-variants.{At, Full}
 use Rattle.block.specs.declared.Node.{Node}
 use Rattle.block.specs.Outcome.{Outcome, nodeOf}
 use Rattle.block.proofs.Outcomes.{out-stop, out-apart, out-size}
 use Rattle.block.proofs.Levels.{Asks, Level, read-tree, read-left, read-right, read-size, sized-occupied, then-left, then-right, out-then}
+use Rattle.tree.proofs.Removes.{balanced-onward}
+
+pub join-onward : (k v : ℕ) (l r : Tree) → Onward (join k v l r)
+join-onward k v l r = onward (join k v l r) (join-steady k v l r)
 
 -- a rule that takes node i apart, does low, and makes above it the top of what came and of c, which stays
 pub record Spine (b : List ℕ) (goal low : Make Tree) (top : Tree → Tree → Make Tree) (i c : ℕ) : Type 0 where
@@ -96,7 +100,7 @@ module _ {b : List ℕ} {l r : ℕ} {n : Node} (D : Larger b r l n) where
     running = D .running;
     stays = read-right (at D);
     small = λ s. omega (arith, join-size k v (tree (heap b) l) x s, sized D l (D .other), sized D (n .left) (read-left (at D)), read-size (at D), D .small);
-    onward = λ t. onward (balanced (n .key) (n .value) t y) (balanced-steady (n .key) (n .value) t y);
+    onward = λ t. balanced-onward (n .key) (n .value) t y;
     is = rw (read-tree (at D)) (right-larger k v (tree (heap b) l) r (n .key) (n .value) x y (over-trees D));
   }
 
@@ -110,7 +114,7 @@ module _ {b : List ℕ} {l r : ℕ} {n : Node} (D : Larger b l r n) where
     running = D .running;
     stays = read-left (at D);
     small = λ s. omega (arith, join-size k v y (tree (heap b) r) s, sized D r (D .other), sized D (n .right) (read-right (at D)), read-size (at D), D .small);
-    onward = λ t. onward (balanced (n .key) (n .value) x t) (balanced-steady (n .key) (n .value) x t);
+    onward = λ t. balanced-onward (n .key) (n .value) x t;
     is = rw (read-tree (at D)) (left-larger k v l (n .key) (n .value) x y (tree (heap b) r) (over-trees D));
   }
 

@@ -15,7 +15,7 @@ use Rattle.model.proofs.Compare.{lt-cmp, eq-cmp, gt-cmp}
 use Rattle.model.proofs.Loads.{tree-size}
 use Rattle.model.proofs.Growing.{grown-size, stocked-supply, came-bind, came-stop, came-apart, came-done}
 use Rattle.model.proofs.Sizes.{split-size}
-use Rattle.model.proofs.Steady.{Onward, onward, join-steady}
+use Rattle.model.proofs.Steady.{Onward}
 use Rattle.block.specs.declared.Made.the-variants.{At, Full}
 use Rattle.block.specs.declared.Found.the-variants.{Value, Absent}
 use Rattle.block.specs.declared.Node.{Node}
@@ -25,6 +25,7 @@ use Rattle.join.specs.declared.Pieces.{Pieces}
 use Rattle.join.specs.declared.Parted.{Parted}
 use Rattle.join.specs.declared.Parted.the-variants as parted
 use Rattle.join.specs.Division.{into, partsOf, Division}
+use Rattle.join.proofs.Joining.{join-onward}
 
 -- the answer as a match has told it
 pub told-parts : {b e : List ℕ} {m : Make Parts} (r q : Parted) → r ≡ q → Division b e r m → Division b e q m
@@ -143,7 +144,7 @@ module _ {b : List ℕ} {n : ℕ} {m : Node} (N : Opened b n m) where
       running = R .running;
       stays = read-right R;
       small = λ s. omega (arith, split-size L k s, left-is, N .small, read-size R);
-      onward = λ t. onward (join (m .key) (m .value) t T) (join-steady (m .key) (m .value) t T);
+      onward = λ t. join-onward (m .key) (m .value) t T;
       is = rw (read-tree R, split) (rw (lt-cmp k (m .key) lt));
     }
 
@@ -154,7 +155,7 @@ module _ {b : List ℕ} {n : ℕ} {m : Node} (N : Opened b n m) where
       running = R .running;
       stays = read-left R;
       small = λ s. omega (arith, split-size T k s, right-is, N .small, read-size R);
-      onward = λ t. onward (join (m .key) (m .value) L t) (join-steady (m .key) (m .value) L t);
+      onward = λ t. join-onward (m .key) (m .value) L t;
       is = rw (read-tree R, split) (rw (gt-cmp k (m .key) (omega (arith, ne))));
     }
 

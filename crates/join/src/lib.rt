@@ -52,14 +52,11 @@ pub enum Parted {
     Full,
 }
 
+// The pieces as an answer.
 fn into_pieces(left: u32, found: Found, right: u32) -> Parted
     ensures { λ r. ⌜ r ≡ into left found right ⌝ }
 {
-    Parted::Into(Pieces {
-        left: left,
-        found: found,
-        right: right,
-    })
+    Parted::Into(Pieces { left, found, right })
 }
 
 // Takes only the path to the key apart: each node on it, with its other child, is joined to the part next to it.
