@@ -14,7 +14,6 @@ use Rattle.model.specs.Heap.{sizeAt, load, tree}
 use Rattle.model.specs.Block.{heap}
 use Rattle.model.proofs.Loads.{tree-node}
 use Rattle.model.proofs.Lookups.{link-occupied}
-use Rattle.model.proofs.Growing.{named-occupied}
 use Rattle.model.proofs.Sizes.{difference-size}
 use Rattle.model.proofs.Steady.{onward, difference-steady, rest-steady}
 use Rattle.block.specs.declared.Made.{Made}
@@ -74,9 +73,7 @@ module _ (diff : ℕ → ℕ → Option ℕ) (cancel : Bool) where
 
   pub root-chain : {b : List ℕ} {l r : ℕ} {m : Node} → Rooted b l r m → (cancel && eqb l r) ≡ false → ByRoot b l r m
   root-chain {b} {l} {r} {m} R e = let h = heap b in record {
-    level = R .level;
-    other = named-occupied h r (R .other);
-    small = R .small;
+    rooted = R;
     fits = λ n t u s. omega (arith, difference-size diff cancel t u s);
     low-onward = λ n t u. onward (difference diff cancel t u) (difference-steady diff cancel t u);
     top-onward = λ o t u. onward (rest t (m .key) (kept diff (m .value) o) u) (rest-steady t (m .key) (kept diff (m .value) o) u);

@@ -6,10 +6,10 @@ use borrow.Author.Tests.{le-leb, lt-leb}
 use native.Mathlib.Omega.{arith}
 use Rattle.model.specs.Tree.{Tree, leaf, node, size}
 use Rattle.model.specs.Supply.{Make, done, apart, _>>=_, _>>_}
-use Rattle.model.specs.Rules.{join, split, mergedLeft, mergedRight, unionBy}
+use Rattle.model.specs.Rules.{join, split, mergedLeft, mergedRight, unionBy, union}
 use Rattle.model.specs.Heap.{sizeAt, load, tree}
 use Rattle.model.specs.Block.{heap}
-use Rattle.model.proofs.Growing.{named-occupied}
+use Rattle.model.proofs.Loads.{tree-size}
 use Rattle.model.proofs.Sizes.{unionBy-size}
 use Rattle.model.proofs.Steady.{onward, unionBy-steady}
 use Rattle.block.specs.declared.Made.{Made}
@@ -28,6 +28,11 @@ told-union {b} {e} {merge} {l} {r} q z p U = subst (λ w. United b e w merge l r
 
 pub straight : {b e : List ℕ} {q : Made} {merge : ℕ → ℕ → ℕ} {l r : ℕ} → Fed b e q (unionBy merge) l r → United b e q merge l r
 straight O = record { any = O }
+
+-- with the fuel of the rule of a union
+pub as-union : {b e : List ℕ} {q : Made} {merge : ℕ → ℕ → ℕ} {l r : ℕ} → Asks b l r → United b e q merge l r → Outcome b e q (union merge (tree (heap b) l) (tree (heap b) r))
+unfolding union
+as-union {b} {e} {q} {merge} {l} {r} A U = U .any (suc (size (tree (heap b) l) + size (tree (heap b) r))) (omega (arith, tree-size (heap b) (A .0 .linked) l (A .1), tree-size (heap b) (A .0 .linked) r (A .2)))
 
 -- the two trees the other way round
 abbrev pub turned : (ℕ → ℕ → ℕ) → ℕ → Tree → Tree → Make Tree
@@ -96,9 +101,7 @@ ByRight b merge l r m = Chain b (λ n. unionBy merge n (tree (heap b) l) (tree (
 module _ {b : List ℕ} {i c : ℕ} {m : Node} (R : Rooted b i c m) (merge : ℕ → ℕ → ℕ) where
   pub left-chain : sizeAt (heap b) c ≤ sizeAt (heap b) i → ByLeft b merge i c m
   left-chain le = record {
-    level = R .level;
-    other = named-occupied (heap b) c (R .other);
-    small = R .small;
+    rooted = R;
     fits = unionBy-size merge;
     low-onward = λ n t u. onward (unionBy merge n t u) (unionBy-steady merge n t u);
     top-onward = λ o t u. join-onward (m .key) (mergedLeft merge (m .value) o) t u;
@@ -107,9 +110,7 @@ module _ {b : List ℕ} {i c : ℕ} {m : Node} (R : Rooted b i c m) (merge : ℕ
 
   pub right-chain : sizeAt (heap b) c < sizeAt (heap b) i → ByRight b merge c i m
   right-chain lt = record {
-    level = R .level;
-    other = named-occupied (heap b) c (R .other);
-    small = R .small;
+    rooted = R;
     fits = λ n t u s. omega (arith, unionBy-size merge n u t s);
     low-onward = λ n t u. onward (unionBy merge n u t) (unionBy-steady merge n u t);
     top-onward = λ o t u. join-onward (m .key) (mergedRight merge o (m .value)) t u;

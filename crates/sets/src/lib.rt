@@ -31,9 +31,7 @@ pub fn union(b: &mut [u32], rule: u32, left: u32, right: u32) -> Made
     if right == 0 {
         return Made::At(left);
     }
-    let left_size = size_at(b, left);
-    let right_size = size_at(b, right);
-    if left_size >= right_size {
+    if size_at(b, left) >= size_at(b, right) {
         let l = read(b, left);
         let Parted::Into(r) = split(b, right, l.key) else {
             return Made::Full;
