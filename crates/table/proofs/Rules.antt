@@ -1,14 +1,17 @@
--- Each rule's outcome from the roots that the code holds: insert and remove are told by the lookup whether the key is there.
+-- Each rule's outcome from the roots that the code holds: insert and remove are told by the lookup whether the key is there,
+-- and the fuel of union is enough.
 use mathlib.Core.Path.{_≡_, refl, sym, subst}
-use Prim.Native.Nat.{ℕ}
+use Prim.Native.Nat.{ℕ, suc, _+_}
 use mathlib.Core.Bool.{Bool, true, false, true≢false}
 use mathlib.Core.List.{List}
-use Rattle.model.specs.Tree.{Tree, leaf, lookup}
+use native.Mathlib.Omega.{arith}
+use Rattle.model.specs.Tree.{Tree, leaf, size, lookup}
 use Rattle.model.specs.Supply.{Make, done}
-use Rattle.model.specs.Rules.{insertBy, insert, removePresent, remove}
+use Rattle.model.specs.Rules.{insertBy, insert, removePresent, remove, union}
 use Rattle.model.specs.Heap.{Named, load, tree, version}
 use Rattle.model.specs.Block.{heap, SoundBlock}
 use Rattle.model.specs.Moves.{Running}
+use Rattle.model.proofs.Loads.{tree-size}
 use Rattle.model.proofs.Versions.{sound-running}
 use Rattle.block.specs.declared.Found.{Found}
 use Rattle.block.specs.declared.Found.the-variants.{Value, Absent}
@@ -17,6 +20,7 @@ use Rattle.block.specs.declared.Made.the-variants.{At}
 use Rattle.block.specs.Outcome.{Outcome, answer}
 use Rattle.block.proofs.Outcomes.{out-done}
 use Rattle.tree.specs.Remade.{remade}
+use Rattle.sets.specs.United.{United}
 use Rattle.table.specs.Answers.{isAbsent}
 use Rattle.table.proofs.Settling.{Source, source-named, source-found}
 
@@ -57,3 +61,9 @@ module _ {b : List ℕ} {v r : ℕ} (S : Source b v r) where
 pub cleared : {b : List ℕ} → SoundBlock b → Outcome b b (At 0) (done leaf)
 unfolding tree load
 cleared {b} B = out-done b 0 (sound-running B) tt
+
+pub united : {b c : List ℕ} {q : Made} {merge : ℕ → ℕ → ℕ} {v w l r : ℕ} → Source b v l → Source b w r → United b c q merge l r → Outcome b c q (union merge (version (heap b) v) (version (heap b) w))
+unfolding union
+united {b} {merge = merge} {l = l} {r = r} S T U =
+    let L = S .sound .sound .kept .linked in
+    rw (← S .is, ← T .is) (U .any (suc (size (tree (heap b) l) + size (tree (heap b) r))) (omega (arith, tree-size (heap b) L l (source-named S), tree-size (heap b) L r (source-named T))))

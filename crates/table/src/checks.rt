@@ -1,9 +1,8 @@
 // The checks that calls begin with.
 use audit::check;
 ghost use mathlib.Core.Path.{_≡_};
-ghost use mathlib.Core.Bool.{_&&_, not};
 ghost use mathlib.Core.List.{[], _∷_};
-ghost use lib.Dec.{eqb, leb};
+ghost use lib.Dec.{leb};
 ghost use Rattle.model.specs.Calls.{Admitted};
 
 const VERSION: u32 = 3;
@@ -26,4 +25,11 @@ pub fn admit(b: &[u32], v: u32, w: u32, x: u32) -> u32
         return VERSION;
     }
     0
+}
+
+// Whether union has a rule of this number.
+pub fn union_rule(rule: u32) -> bool
+    ensures { λ r. ⌜ r ≡ leb rule 4 ⌝ }
+{
+    rule <= 4
 }

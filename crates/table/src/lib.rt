@@ -10,5 +10,6 @@ pub use edits::copy;
 pub use edits::fresh;
 pub use edits::insert;
 pub use edits::remove;
+pub use edits::union;
 pub use reads::lookup;
 pub use reads::size;

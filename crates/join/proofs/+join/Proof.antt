@@ -1,0 +1,190 @@
+-- Join ends because a child is smaller than its node; each level is one of those in Joining.
+use borrow.Author.Needs.{needs}
+use native.Mathlib.Omega.{arith}
+use Prim.Native.Nat.{ℕ, _+_, _<_}
+use borrow.Fn.Kinds.{In, Out}
+use borrow.Fn.PlainCycle.{Measures, is, falls, and}
+use Rattle.join.proofs.join.Reads as join
+use Rattle.join.proofs.join.Kinds as join-kinds
+use Rattle.join.proofs.+join.Lts-join as join-lts
+use Rattle.block.proofs.read.Reads as read-reads
+use Rattle.block.proofs.size_at.Reads as size-at-reads
+use Rattle.tree.proofs.balanced.Reads as balanced-reads
+use Rattle.join.proofs.+join.{statement}
+use Rattle.join.proofs.+join.Tie.{close}
+use Rattle.block.proofs.size_at.Kinds as size-at-kinds
+use Rattle.block.proofs.read.Kinds as read-kinds
+use Rattle.tree.proofs.balanced.Kinds as balanced-kinds
+use Rattle.model.specs.Block.{heap}
+use Rattle.model.specs.Heap.{sizeAt}
+use Rattle.block.proofs.Outcomes.{told}
+use Rattle.join.proofs.Joining.{Larger, even, spine-stop, spine-left, spine-right, spine-done, right-asks, right-spine, left-asks, left-spine}
+use Rattle.block.proofs.Levels.{read-asks, sized-occupied}
+
+abbrev μ-join : Measures 1 join-kinds.ps ℕ
+μ-join κs a = sizeAt (heap (a .0 .now)) (a .1 .1 .1 .0) + sizeAt (heap (a .0 .now)) (a .1 .1 .1 .1 .0)
+
+abbrev join-at : ℕ → In 1 join-kinds.ps
+join-at t = and 1 join-kinds.ps (is 1 join-kinds.ps μ-join t) join.Pre
+
+abbrev join-below : ℕ → In 1 join-kinds.ps
+join-below t = and 1 join-kinds.ps (falls 1 join-kinds.ps _<_ μ-join t) join.Pre
+
+abbrev calls : (t : ℕ) → In 1 size-at-kinds.ps × Out 1 size-at-kinds.ps size-at-kinds.r × In 1 read-kinds.ps × Out 1 read-kinds.ps read-kinds.r × In 1 join-kinds.ps × Out 1 join-kinds.ps join-kinds.r × In 1 balanced-kinds.ps × Out 1 balanced-kinds.ps balanced-kinds.r
+calls t = (size-at-reads.Asked, size-at-reads.Learnt, read-reads.Asked, read-reads.Learnt, join-below t, join.Post, balanced-reads.Asked, balanced-reads.Learnt)
+
+-- a level, once its larger side is read
+right : (t : ℕ) (c : join-lts.After-read (calls t) (join-at t) join.Post) → let a = c .before .before .before .before .before .before .before .before .args in Larger (a .b .now) (a .right) (a .left) (c .read .result)
+right t c =
+    let p = c .before .before .before .before .before .before .before .before .pre .1 in
+    record {
+      running = p .0;
+      larger = p .2;
+      other = p .1;
+      small = omega (arith, p .3);
+      over = omega (arith, c .before .before .if1 .taken, c .before .before .before .before .before .size-at .ensures, c .before .before .before .size-at2 .ensures);
+      is = c .read .ensures;
+    }
+
+left : (t : ℕ) (c : join-lts.After-read2 (calls t) (join-at t) join.Post) → let a = c .before .before .before .before .before .before .before .before .before .args in Larger (a .b .now) (a .left) (a .right) (c .read2 .result)
+left t c =
+    let p = c .before .before .before .before .before .before .before .before .before .pre .1 in
+    record {
+      running = p .0;
+      larger = p .1;
+      other = p .2;
+      small = p .3;
+      over = omega (arith, c .before .before .if2 .taken, c .before .before .before .before .before .before .size-at .ensures, c .before .before .before .before .size-at2 .ensures);
+      is = c .read2 .ensures;
+    }
+
+-- src/lib.rt:23:9
+join-size-at-requires : (t : ℕ) → join-lts.Need-size-at-requires (calls t) (join-at t) join.Post
+join-size-at-requires t c κs = let p = c .before .before .pre .1 in (p .0 .shaped, p .0 .linked, p .1)
+
+-- src/lib.rt:24:9
+join-size-at-requires-2 : (t : ℕ) → join-lts.Need-size-at-requires-2 (calls t) (join-at t) join.Post
+join-size-at-requires-2 t c κs = let p = c .before .before .before .before .pre .1 in (p .0 .shaped, p .0 .linked, p .2)
+
+-- src/lib.rt:25:21
+join-mul-if1 : (t : ℕ) → join-lts.Need-mul-if1 (calls t) (join-at t) join.Post
+join-mul-if1 t c = omega (arith, c .before .before .before .before .before .pre .1 .3, c .before .before .size-at .ensures)
+
+-- src/lib.rt:26:13
+join-read-requires : (t : ℕ) → join-lts.Need-read-requires (calls t) (join-at t) join.Post
+join-read-requires t c κs = let st = c .before .before .before .before .before .before .before in read-asks _ (st .pre .1 .0) (sized-occupied (heap (st .args .b .now)) (st .args .right) (st .pre .1 .2) (omega (arith, c .before .if1 .taken, c .before .before .size-at2 .ensures)))
+
+-- src/lib.rt:27:34
+join-join-requires : (t : ℕ) → join-lts.Need-join-requires (calls t) (join-at t) join.Post
+join-join-requires t c κs = right-asks (right t (c .before)) (c .before .before .before .before .before .before .before .before .before .pre .0)
+
+-- src/lib.rt:27:22
+join-enum-known-new-left : (t : ℕ) → join-lts.Need-enum-known-new-left (calls t) (join-at t) join.Post
+join-enum-known-new-left t c = search needs
+
+-- src/lib.rt:28:13
+join-enum-told : (t : ℕ) → join-lts.Need-enum-told (calls t) (join-at t) join.Post
+join-enum-told t c = search needs
+
+-- src/lib.rt:28:13
+join-same-length : (t : ℕ) → join-lts.Need-same-length (calls t) (join-at t) join.Post
+join-same-length t c = search needs
+
+-- src/lib.rt:28:13
+join-returns : (t : ℕ) → join-lts.Need-returns (calls t) (join-at t) join.Post
+join-returns t c = spine-stop (right-spine (right t (c .before .before .before .before .before .before)) _ _) (told _ _ (c .enum-told .given .1) (c .before .before .before .before .join .ensures))
+
+-- src/lib.rt:30:9
+join-balanced-requires : (t : ℕ) → join-lts.Need-balanced-requires (calls t) (join-at t) join.Post
+join-balanced-requires t c κs = spine-left (right-spine (right t (c .before .before .before .before .before .before .before .before)) _ _) (told _ _ (c .before .before .new-left .given .1) (c .before .before .before .before .before .before .join .ensures))
+
+-- src/lib.rt:30:9
+join-same-length-2 : (t : ℕ) → join-lts.Need-same-length-2 (calls t) (join-at t) join.Post
+join-same-length-2 t c = search needs
+
+-- src/lib.rt:30:9
+join-returns-2 : (t : ℕ) → join-lts.Need-returns-2 (calls t) (join-at t) join.Post
+join-returns-2 t c = spine-done (right-spine (right t (c .before .before .before .before .before .before .before .before .before .before .before)) _ _) (told _ _ (c .before .before .before .before .before .new-left .given .1) (c .before .before .before .before .before .before .before .before .before .join .ensures)) (c .before .before .balanced .ensures)
+
+-- src/lib.rt:32:20
+join-mul-if2 : (t : ℕ) → join-lts.Need-mul-if2 (calls t) (join-at t) join.Post
+join-mul-if2 t c = omega (arith, c .before .before .before .before .before .before .pre .1 .3, c .before .size-at2 .ensures)
+
+-- src/lib.rt:33:13
+join-read-requires-2 : (t : ℕ) → join-lts.Need-read-requires-2 (calls t) (join-at t) join.Post
+join-read-requires-2 t c κs = let st = c .before .before .before .before .before .before .before .before in read-asks _ (st .pre .1 .0) (sized-occupied (heap (st .args .b .now)) (st .args .left) (st .pre .1 .1) (omega (arith, c .before .if2 .taken, c .before .before .before .before .before .size-at .ensures)))
+
+-- src/lib.rt:34:35
+join-join-requires-2 : (t : ℕ) → join-lts.Need-join-requires-2 (calls t) (join-at t) join.Post
+join-join-requires-2 t c κs = left-asks (left t (c .before)) (c .before .before .before .before .before .before .before .before .before .before .pre .0)
+
+-- src/lib.rt:34:22
+join-enum-known-new-right : (t : ℕ) → join-lts.Need-enum-known-new-right (calls t) (join-at t) join.Post
+join-enum-known-new-right t c = search needs
+
+-- src/lib.rt:35:13
+join-enum-told-2 : (t : ℕ) → join-lts.Need-enum-told-2 (calls t) (join-at t) join.Post
+join-enum-told-2 t c = search needs
+
+-- src/lib.rt:35:13
+join-same-length-3 : (t : ℕ) → join-lts.Need-same-length-3 (calls t) (join-at t) join.Post
+join-same-length-3 t c = search needs
+
+-- src/lib.rt:35:13
+join-returns-3 : (t : ℕ) → join-lts.Need-returns-3 (calls t) (join-at t) join.Post
+join-returns-3 t c = spine-stop (left-spine (left t (c .before .before .before .before .before .before)) _ _) (told _ _ (c .enum-told2 .given .1) (c .before .before .before .before .join2 .ensures))
+
+-- src/lib.rt:37:9
+join-balanced-requires-2 : (t : ℕ) → join-lts.Need-balanced-requires-2 (calls t) (join-at t) join.Post
+join-balanced-requires-2 t c κs = spine-right (left-spine (left t (c .before .before .before .before .before .before .before .before)) _ _) (told _ _ (c .before .before .new-right .given .1) (c .before .before .before .before .before .before .join2 .ensures))
+
+-- src/lib.rt:37:9
+join-same-length-4 : (t : ℕ) → join-lts.Need-same-length-4 (calls t) (join-at t) join.Post
+join-same-length-4 t c = search needs
+
+-- src/lib.rt:37:9
+join-returns-4 : (t : ℕ) → join-lts.Need-returns-4 (calls t) (join-at t) join.Post
+join-returns-4 t c = spine-done (left-spine (left t (c .before .before .before .before .before .before .before .before .before .before .before)) _ _) (told _ _ (c .before .before .before .before .before .new-right .given .1) (c .before .before .before .before .before .before .before .before .before .join2 .ensures)) (c .before .before .balanced2 .ensures)
+
+-- src/lib.rt:39:5
+join-balanced-requires-3 : (t : ℕ) → join-lts.Need-balanced-requires-3 (calls t) (join-at t) join.Post
+join-balanced-requires-3 t c κs = c .before .before .before .before .before .before .before .before .pre .1
+
+-- src/lib.rt:19:1
+join-same-length-5 : (t : ℕ) → join-lts.Need-same-length-5 (calls t) (join-at t) join.Post
+join-same-length-5 t c = search needs
+
+-- src/lib.rt:19:1
+join-returns-5 : (t : ℕ) → join-lts.Need-returns-5 (calls t) (join-at t) join.Post
+join-returns-5 t c = let a = c .before .before .before .before .before .before .before .before .before .before .before .args in
+    even (a .key) (a .value) (a .left) (a .right) (c .before .before .before .before .before .before .before .before .before .before .before .pre .1) (omega (arith, c .before .before .before .before .before .if1 .left, c .before .before .before .before .before .before .before .before .size-at .ensures, c .before .before .before .before .before .before .size-at2 .ensures)) (omega (arith, c .before .before .before .before .if2 .left, c .before .before .before .before .before .before .before .before .size-at .ensures, c .before .before .before .before .before .before .size-at2 .ensures)) (c .before .before .balanced3 .ensures)
+
+pub +join-spec : {M : Type 1} → statement M
++join-spec = close μ-join λ t. join-lts.spec (calls t)
+    (join-at t)
+    join.Post
+    (join-size-at-requires t)
+    (join-size-at-requires-2 t)
+    (join-mul-if1 t)
+    (join-read-requires t)
+    (join-join-requires t)
+    (join-enum-known-new-left t)
+    (join-enum-told t)
+    (join-same-length t)
+    (join-returns t)
+    (join-balanced-requires t)
+    (join-same-length-2 t)
+    (join-returns-2 t)
+    (join-mul-if2 t)
+    (join-read-requires-2 t)
+    (join-join-requires-2 t)
+    (join-enum-known-new-right t)
+    (join-enum-told-2 t)
+    (join-same-length-3 t)
+    (join-returns-3 t)
+    (join-balanced-requires-2 t)
+    (join-same-length-4 t)
+    (join-returns-4 t)
+    (join-balanced-requires-3 t)
+    (join-same-length-5 t)
+    (join-returns-5 t)

@@ -1,0 +1,109 @@
+// Two trees joined around an entry or without one, and a tree split at a key.
+use block::Found;
+use block::Made;
+use block::read;
+use block::size_at;
+use tree::Lost;
+use tree::balanced;
+use tree::remove_min;
+ghost use mathlib.Core.Path.{_≡_};
+ghost use Prim.Native.Nat.{ℕ, _+_, _<_};
+ghost use Rattle.model.specs.Heap.{Named, sizeAt, tree};
+ghost use Rattle.model.specs.Block.{heap};
+ghost use Rattle.model.specs.Moves.{Running};
+ghost use Rattle.model.specs.Rules.{join, split, withoutKey};
+ghost use Rattle.block.specs.Outcome.{Outcome};
+ghost use Rattle.join.specs.Division.{Division, into};
+
+// Goes down the larger side's spine until neither side is over 3 times the other: there one balanced make will do.
+pub fn join(b: &mut [u32], key: u32, value: u32, left: u32, right: u32) -> Made
+    requires { ⌜ Running (now b) × Named (heap (now b)) left × Named (heap (now b)) right × (sizeAt (heap (now b)) left + sizeAt (heap (now b)) right < 1048576) ⌝ }
+    ensures { λ r. ⌜ Outcome (now (b .entry)) (now (b .exit)) r (join key value (tree (heap (now (b .entry))) left) (tree (heap (now (b .entry))) right)) ⌝ }
+{
+    let left_size = size_at(b, left);
+    let right_size = size_at(b, right);
+    if right_size > 3 * left_size {
+        let r = read(b, right);
+        let Made::At(new_left) = join(b, key, value, left, r.left) else {
+            return Made::Full;
+        };
+        return balanced(b, r.key, r.value, new_left, r.right);
+    }
+    if left_size > 3 * right_size {
+        let l = read(b, left);
+        let Made::At(new_right) = join(b, key, value, l.right, right) else {
+            return Made::Full;
+        };
+        return balanced(b, l.key, l.value, l.left, new_right);
+    }
+    balanced(b, key, value, left, right)
+}
+
+// What is left of a key, its value, and what is right of it.
+pub struct Pieces {
+    pub left: u32,
+    pub found: Found,
+    pub right: u32,
+}
+
+// The pieces, if there was room.
+pub enum Parted {
+    Into(Pieces),
+    Full,
+}
+
+// The pieces as an answer.
+fn into_pieces(left: u32, found: Found, right: u32) -> Parted
+    ensures { λ r. ⌜ r ≡ into left found right ⌝ }
+{
+    Parted::Into(Pieces { left, found, right })
+}
+
+// Takes only the path to the key apart: each node on it, with its other child, is joined to the part next to it.
+pub fn split(b: &mut [u32], n: u32, key: u32) -> Parted
+    requires { ⌜ Running (now b) × Named (heap (now b)) n × (sizeAt (heap (now b)) n < 1048576) ⌝ }
+    ensures { λ r. ⌜ Division (now (b .entry)) (now (b .exit)) r (split (tree (heap (now (b .entry))) n) key) ⌝ }
+{
+    if n == 0 {
+        return into_pieces(0, Found::Absent, 0);
+    }
+    let node = read(b, n);
+    if key == node.key {
+        return into_pieces(node.left, Found::Value(node.value), node.right);
+    }
+    if key < node.key {
+        let Parted::Into(p) = split(b, node.left, key) else {
+            return Parted::Full;
+        };
+        let Made::At(joined_right) = join(b, node.key, node.value, p.right, node.right) else {
+            return Parted::Full;
+        };
+        let found = p.found;
+        return into_pieces(p.left, found, joined_right);
+    }
+    let Parted::Into(p) = split(b, node.right, key) else {
+        return Parted::Full;
+    };
+    let Made::At(joined_left) = join(b, node.key, node.value, node.left, p.left) else {
+        return Parted::Full;
+    };
+    let found = p.found;
+    into_pieces(joined_left, found, p.right)
+}
+
+// A sole remaining side is returned as is; of two, the minimum of the right takes the key's place.
+pub fn without_key(b: &mut [u32], left: u32, right: u32) -> Made
+    requires { ⌜ Running (now b) × Named (heap (now b)) left × Named (heap (now b)) right × (sizeAt (heap (now b)) left + sizeAt (heap (now b)) right < 1048576) ⌝ }
+    ensures { λ r. ⌜ Outcome (now (b .entry)) (now (b .exit)) r (withoutKey join (tree (heap (now (b .entry))) left) (tree (heap (now (b .entry))) right)) ⌝ }
+{
+    if left == 0 {
+        return Made::At(right);
+    }
+    if right == 0 {
+        return Made::At(left);
+    }
+    let Lost::Into(min) = remove_min(b, right) else {
+        return Made::Full;
+    };
+    join(b, min.key, min.value, left, min.node)
+}

@@ -1,0 +1,183 @@
+-- A level is right because it does what its rule does, in the rule's order: the other tree split at the root's key, the left parts, the right parts, then the last make; where one of them finds no room, the rule makes more nodes than are free.
+use mathlib.Core.Path.{_≡_, subst}
+use Prim.Native.Nat.{ℕ, zero, suc, _+_, _≤_, _<_}
+use mathlib.Core.Option.{Option}
+use mathlib.Core.List.{List}
+use native.Mathlib.Omega.{arith}
+use Rattle.model.specs.Tree.{Tree, size}
+use Rattle.model.specs.Supply.{Supply, Make, apart, _>>=_, _>>_}
+use Rattle.model.specs.Rules.{Parts, split}
+use Rattle.model.specs.Heap.{Named, sizeAt, tree, supply}
+use Rattle.model.specs.Block.{heap}
+use Rattle.model.specs.Moves.{Running, Grown}
+use Rattle.model.proofs.Loads.{tree-size}
+use Rattle.model.proofs.Growing.{grown-size, grown-trans, came-bind, came-stop}
+use Rattle.model.proofs.Steady.{Onward, bind-onward}
+use Rattle.block.specs.declared.Made.{Made}
+use Rattle.block.specs.declared.Made.the-variants.{At, Full}
+use Rattle.block.specs.declared.Node.{Node}
+use Rattle.block.specs.Outcome.{Outcome, answer, treeAt}
+use Rattle.block.proofs.Outcomes.{out-bind, out-stop, out-apart, out-size}
+use Rattle.block.proofs.Levels.{Asks, Level, read-left, read-right, read-size}
+use Rattle.join.specs.declared.Pieces.{Pieces}
+use Rattle.join.specs.declared.Parted.the-variants as parted
+use Rattle.join.specs.Division.{partsOf, Division}
+use Rattle.join.proofs.Splitting.{parts-size}
+
+-- b became e by low of the trees below x and y, the same with any fuel above their two sizes together
+abbrev pub Fed : List ℕ → List ℕ → Made → (ℕ → Tree → Tree → Make Tree) → ℕ → ℕ → Type 0
+Fed b e q low x y = (fuel : ℕ) → sizeAt (heap b) x + sizeAt (heap b) y < fuel → Outcome b e q (low fuel (tree (heap b) x) (tree (heap b) y))
+
+-- what a call on x and y in e asks, made for node i and tree c of b
+pub record Called (b e : List ℕ) (i c x y : ℕ) : Type 0 where
+  pub smaller : sizeAt (heap e) x < sizeAt (heap b) i
+  pub fewer : sizeAt (heap e) x + sizeAt (heap e) y < sizeAt (heap b) i + sizeAt (heap b) c
+  pub asks : Asks e x y
+
+-- the rule goal at node i, read as m: tree c is split at its key, the parts are put to low, and top makes the end
+pub record Chain (b : List ℕ) (goal : ℕ → Make Tree) (low : ℕ → Tree → Tree → Make Tree) (top : Option ℕ → Tree → Tree → Make Tree) (i c : ℕ) (m : Node) : Type 0 where
+  pub level : Level b i m
+  pub other : Named (heap b) c
+  pub small : sizeAt (heap b) i + sizeAt (heap b) c < 1048576
+  pub fits : (n : ℕ) (t u : Tree) (s : Supply) → size (low n t u s .0) ≤ size t + size u
+  pub low-onward : (n : ℕ) (t u : Tree) → Onward (low n t u)
+  pub top-onward : (o : Option ℕ) (t u : Tree) → Onward (top o t u)
+  pub is : (n : ℕ) → goal (suc n) ≡ (apart i >> (split (tree (heap b) c) (m .key) >>= λ p. low n (tree (heap b) (m .left)) (p .left) >>= λ t. low n (tree (heap b) (m .right)) (p .right) >>= λ u. top (p .found) t u))
+
+module _ {b : List ℕ} {goal : ℕ → Make Tree} {low : ℕ → Tree → Tree → Make Tree} {top : Option ℕ → Tree → Tree → Make Tree} {i c : ℕ} {m : Node} (C : Chain b goal low top i c m) where
+  abbrev cut : Make Parts
+  cut = split (tree (heap b) c) (m .key)
+
+  -- what follows the left parts, and what follows the split
+  abbrev later : ℕ → Parts → Tree → Make Tree
+  later n p t = low n (tree (heap b) (m .right)) (p .right) >>= λ u. top (p .found) t u
+
+  abbrev both : ℕ → Parts → Make Tree
+  both n p = low n (tree (heap b) (m .left)) (p .left) >>= λ t. later n p t
+
+  later-onward : (n : ℕ) (p : Parts) (t : Tree) → Onward (later n p t)
+  later-onward n p t = bind-onward (low n (tree (heap b) (m .right)) (p .right)) (λ u. top (p .found) t u) (C .low-onward n (tree (heap b) (m .right)) (p .right)) (λ u. C .top-onward (p .found) t u)
+
+  both-onward : (n : ℕ) (p : Parts) → Onward (both n p)
+  both-onward n p = bind-onward (low n (tree (heap b) (m .left)) (p .left)) (λ t. later n p t) (C .low-onward n (tree (heap b) (m .left)) (p .left)) (λ t. later-onward n p t)
+
+  -- the level has come to e
+  abbrev Ends : List ℕ → Made → Type 0
+  Ends e q = (fuel : ℕ) → sizeAt (heap b) i + sizeAt (heap b) c < fuel → Outcome b e q (goal fuel)
+
+  as-goal : {e : List ℕ} {q : Made} → ((n : ℕ) → sizeAt (heap b) i + sizeAt (heap b) c < suc n → Outcome b e q (cut >>= λ p. both n p)) → Ends e q
+  as-goal O zero lt = absurd (omega arith)
+  as-goal {e} {q} O (suc n) lt = rw (C .is n) (out-apart b e i q (cut >>= λ p. both n p) (O n lt))
+
+  pub chain-asks : Running b × Named (heap b) c × (sizeAt (heap b) c < 1048576)
+  chain-asks = (C .level .running, C .other, omega (arith, C .small))
+
+  pub chain-stop : {e : List ℕ} → Division b e parted.Full cut → Ends e Full
+  chain-stop {e} D = as-goal (λ n lt. record { named = tt; came = came-stop b e cut (λ p. both n p) (D .came) (λ p. both-onward n p) })
+
+  -- the other tree is split
+  module _ {e : List ℕ} {p : Pieces} (D : Division b e (parted.Into p) cut) where
+    abbrev got : Parts
+    got = partsOf (heap e) p
+
+    after : {f : List ℕ} {q : Made} → ((n : ℕ) → sizeAt (heap b) i + sizeAt (heap b) c < suc n → Outcome e f q (both n got)) → Ends f q
+    after {f} {q} O = as-goal (λ n lt. record { named = O n lt .named; came = came-bind b e f got (treeAt (heap f) q) cut (λ x. both n x) (D .came) (O n lt .came) })
+
+    same : (x : ℕ) → Named (heap b) x → sizeAt (heap e) x ≡ sizeAt (heap b) x
+    same x o = grown-size (heap b) (heap e) x (C .level .running .linked) (D .came .running .linked) (D .came .grown) o
+
+    pieces : sizeAt (heap e) (p .left) + sizeAt (heap e) (p .right) ≤ sizeAt (heap b) c
+    pieces = parts-size c (m .key) (C .level .running) (C .other) D
+
+    whole : sizeAt (heap b) i ≡ suc (sizeAt (heap e) (m .left) + sizeAt (heap e) (m .right))
+    whole = omega (arith, read-size (C .level), same (m .left) (read-left (C .level)), same (m .right) (read-right (C .level)))
+
+    pub chain-first : Called b e i c (m .left) (p .left)
+    chain-first = record {
+      smaller = omega (arith, whole);
+      fewer = omega (arith, whole, pieces);
+      asks = (D .came .running, D .came .grown .kept (m .left) (read-left (C .level)), D .left, omega (arith, whole, pieces, C .small));
+    }
+
+    -- its fuel is enough, and the root's left child is as it was
+    as-first : {f : List ℕ} {q : Made} → Fed e f q low (m .left) (p .left) → (n : ℕ) → sizeAt (heap b) i + sizeAt (heap b) c < suc n → Outcome e f q (low n (tree (heap b) (m .left)) (got .left))
+    as-first {f} {q} A n lt = subst (λ t. Outcome e f q (low n t (tree (heap e) (p .left)))) (D .came .grown .trees (m .left) (read-left (C .level))) (A n (omega (arith, chain-first .fewer)))
+
+    pub chain-stop-first : {f : List ℕ} → Fed e f Full low (m .left) (p .left) → Ends f Full
+    chain-stop-first {f} A = after (λ n lt. out-stop e f (low n (tree (heap b) (m .left)) (got .left)) (λ t. later n got t) (as-first A n lt) (λ t. later-onward n got t))
+
+    -- the left parts are done
+    module _ {f : List ℕ} {x : ℕ} (A : Fed e f (At x) low (m .left) (p .left)) where
+      abbrev enough : ℕ
+      enough = suc (sizeAt (heap e) (m .left) + sizeAt (heap e) (p .left))
+
+      done-first : Outcome e f (At x) (low enough (tree (heap e) (m .left)) (tree (heap e) (p .left)))
+      done-first = A enough (omega arith)
+
+      G : Grown (heap e) (heap f)
+      G = done-first .came .grown
+
+      same-2 : (y : ℕ) → Named (heap e) y → sizeAt (heap f) y ≡ sizeAt (heap e) y
+      same-2 y o = grown-size (heap e) (heap f) y (D .came .running .linked) (done-first .came .running .linked) G o
+
+      right-stays : Named (heap e) (m .right)
+      right-stays = D .came .grown .kept (m .right) (read-right (C .level))
+
+      first-size : sizeAt (heap f) x ≤ sizeAt (heap e) (m .left) + sizeAt (heap e) (p .left)
+      first-size =
+          let L = D .came .running .linked in
+          omega (
+            arith,
+            out-size e f x (low enough (tree (heap e) (m .left)) (tree (heap e) (p .left))) done-first,
+            C .fits enough (tree (heap e) (m .left)) (tree (heap e) (p .left)) (supply (heap e)),
+            tree-size (heap e) L (m .left) (chain-first .asks .1),
+            tree-size (heap e) L (p .left) (D .left),
+          )
+
+      pub chain-second : Called b f i c (m .right) (p .right)
+      chain-second = let z = same-2 (m .right) right-stays in let w = same-2 (p .right) (D .right) in record {
+        smaller = omega (arith, whole);
+        fewer = omega (arith, whole, pieces);
+        asks = (done-first .came .running, G .kept (m .right) right-stays, G .kept (p .right) (D .right), omega (arith, whole, pieces, C .small));
+      }
+
+      as-second : {g : List ℕ} {q : Made} → Fed f g q low (m .right) (p .right) → (n : ℕ) → sizeAt (heap b) i + sizeAt (heap b) c < suc n → Outcome f g q (low n (tree (heap b) (m .right)) (got .right))
+      as-second {g} {q} B n lt =
+          let K = grown-trans (heap b) (heap e) (heap f) (D .came .grown) G in
+          subst (λ t. Outcome f g q (low n t (tree (heap e) (p .right)))) (K .trees (m .right) (read-right (C .level)))
+          (subst (λ t. Outcome f g q (low n (tree (heap f) (m .right)) t)) (G .trees (p .right) (D .right)) (B n (omega (arith, chain-second .fewer))))
+
+      then : {g : List ℕ} {q : Made} → ((n : ℕ) → sizeAt (heap b) i + sizeAt (heap b) c < suc n → Outcome f g q (later n got (tree (heap f) x))) → Ends g q
+      then {g} {q} O = after (λ n lt. out-bind e f g x q (low n (tree (heap b) (m .left)) (got .left)) (λ t. later n got t) (as-first A n lt) (O n lt))
+
+      pub chain-stop-second : {g : List ℕ} → Fed f g Full low (m .right) (p .right) → Ends g Full
+      chain-stop-second {g} B = then (λ n lt. out-stop f g (low n (tree (heap b) (m .right)) (got .right)) (λ u. top (got .found) (tree (heap f) x) u) (as-second B n lt) (λ u. C .top-onward (got .found) (tree (heap f) x) u))
+
+      -- the right parts are done
+      module _ {g : List ℕ} {y : ℕ} (B : Fed f g (At y) low (m .right) (p .right)) where
+        abbrev enough-2 : ℕ
+        enough-2 = suc (sizeAt (heap f) (m .right) + sizeAt (heap f) (p .right))
+
+        done-second : Outcome f g (At y) (low enough-2 (tree (heap f) (m .right)) (tree (heap f) (p .right)))
+        done-second = B enough-2 (omega arith)
+
+        second-size : sizeAt (heap g) y ≤ sizeAt (heap f) (m .right) + sizeAt (heap f) (p .right)
+        second-size =
+            let q = chain-second .asks in
+            omega (
+              arith,
+              out-size f g y (low enough-2 (tree (heap f) (m .right)) (tree (heap f) (p .right))) done-second,
+              C .fits enough-2 (tree (heap f) (m .right)) (tree (heap f) (p .right)) (supply (heap f)),
+              tree-size (heap f) (q .0 .linked) (m .right) (q .1),
+              tree-size (heap f) (q .0 .linked) (p .right) (q .2),
+            )
+
+        pub chain-last : Asks g x y
+        chain-last =
+            let O = done-second .came in
+            let z = grown-size (heap f) (heap g) x (done-first .came .running .linked) (O .running .linked) (O .grown) (done-first .named) in
+            (O .running, O .grown .kept x (done-first .named), done-second .named, omega (arith, first-size, second-size, same-2 (m .right) right-stays, same-2 (p .right) (D .right), whole, pieces, C .small))
+
+        pub chain-done : {k : List ℕ} {q : Made} → Outcome g k q (top (answer (p .found)) (tree (heap g) x) (tree (heap g) y)) → Ends k q
+        chain-done {k} {q} O = then (λ n lt. out-bind f g k y q (low n (tree (heap b) (m .right)) (got .right)) (λ u. top (got .found) (tree (heap f) x) u) (as-second B n lt)
+            (subst (λ t. Outcome g k q (top (answer (p .found)) t (tree (heap g) y))) (done-second .came .grown .trees x (done-first .named)) O))

@@ -1,0 +1,3 @@
+pub mod ByRule
+pub mod Chains
+pub mod Uniting

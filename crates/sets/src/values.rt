@@ -1,0 +1,47 @@
+// The value of a key that both trees have, by the rule's number.
+use block::Found;
+ghost use mathlib.Core.Path.{_≡_};
+ghost use Rattle.model.specs.Rules.{mergedLeft, mergedRight, mergeBy};
+ghost use Rattle.block.specs.Outcome.{answer};
+
+// Union rules: 0 left, 1 right, 2 smaller, 3 larger, 4 sum held at 4,294,967,295, which is asked before the sum could exceed it.
+fn merge(rule: u32, x: u32, y: u32) -> u32
+    ensures { λ r. ⌜ r ≡ mergeBy rule x y ⌝ }
+{
+    if rule == 0 {
+        return x;
+    }
+    if rule == 1 {
+        return y;
+    }
+    if rule == 2 {
+        return if x < y { x } else { y };
+    }
+    if rule == 3 {
+        return if x < y { y } else { x };
+    }
+    if 4294967295 - x < y {
+        return 4294967295;
+    }
+    x + y
+}
+
+// The value of a left key, merged where the right has the key.
+pub fn merge_left(rule: u32, x: u32, right: Found) -> u32
+    ensures { λ r. ⌜ r ≡ mergedLeft (mergeBy rule) x (answer right) ⌝ }
+{
+    match right {
+        Found::Value(y) => merge(rule, x, y),
+        Found::Absent => x,
+    }
+}
+
+// The value of a right key, merged as (left value, right value) where the left has the key.
+pub fn merge_right(rule: u32, left: Found, y: u32) -> u32
+    ensures { λ r. ⌜ r ≡ mergedRight (mergeBy rule) (answer left) y ⌝ }
+{
+    match left {
+        Found::Value(x) => merge(rule, x, y),
+        Found::Absent => y,
+    }
+}
