@@ -1,24 +1,26 @@
 -- A level is right because it does what its rule does, in the rule's order: the other tree split at the root's key, the left parts, the right parts, then the last make; where one of them finds no room, the rule makes more nodes than are free.
-use mathlib.Core.Path.{_≡_, subst}
+use mathlib.Core.Path.{_≡_, ap, sym, subst, _∙_}
+use mathlib.Core.Logic.{_≢_}
 use Prim.Native.Nat.{ℕ, zero, suc, _+_, _≤_, _<_}
 use mathlib.Core.Option.{Option}
 use mathlib.Core.List.{List}
 use native.Mathlib.Omega.{arith}
-use Rattle.model.specs.Tree.{Tree, size}
+use Rattle.model.specs.Tree.{Tree, node, size}
 use Rattle.model.specs.Supply.{Supply, Make, apart, _>>=_, _>>_}
 use Rattle.model.specs.Rules.{Parts, split}
-use Rattle.model.specs.Heap.{Named, sizeAt, tree, supply}
+use Rattle.model.specs.Heap.{Occupied, Linked, Named, sizeAt, tree, supply}
 use Rattle.model.specs.Block.{heap}
 use Rattle.model.specs.Moves.{Running, Grown}
-use Rattle.model.proofs.Loads.{tree-size}
-use Rattle.model.proofs.Growing.{grown-size, grown-trans, came-bind, came-stop}
+use Rattle.model.proofs.Loads.{tree-node, tree-size}
+use Rattle.model.proofs.Lookups.{link-occupied}
+use Rattle.model.proofs.Growing.{named-occupied, grown-size, grown-trans, came-bind, came-stop}
 use Rattle.model.proofs.Steady.{Onward, bind-onward}
 use Rattle.block.specs.declared.Made.{Made}
 use Rattle.block.specs.declared.Made.the-variants.{At, Full}
 use Rattle.block.specs.declared.Node.{Node}
-use Rattle.block.specs.Outcome.{Outcome, answer, treeAt}
+use Rattle.block.specs.Outcome.{Outcome, answer, treeAt, nodeOf}
 use Rattle.block.proofs.Outcomes.{out-bind, out-stop, out-apart, out-size}
-use Rattle.block.proofs.Levels.{Asks, Level, read-left, read-right, read-size}
+use Rattle.block.proofs.Levels.{Asks, Level, read-tree, read-left, read-right, read-size}
 use Rattle.join.specs.declared.Pieces.{Pieces}
 use Rattle.join.specs.declared.Parted.the-variants as parted
 use Rattle.join.specs.Division.{partsOf, Division}
@@ -181,3 +183,26 @@ module _ {b : List ℕ} {goal : ℕ → Make Tree} {low : ℕ → Tree → Tree 
         pub chain-done : {k : List ℕ} {q : Made} → Outcome g k q (top (answer (p .found)) (tree (heap g) x) (tree (heap g) y)) → Ends k q
         chain-done {k} {q} O = then (λ n lt. out-bind f g k y q (low n (tree (heap b) (m .right)) (got .right)) (λ u. top (got .found) (tree (heap f) x) u) (as-second B n lt)
             (subst (λ t. Outcome g k q (top (answer (p .found)) t (tree (heap g) y))) (done-second .came .grown .trees x (done-first .named)) O))
+
+-- two nodes, and the one that is taken has been read
+pub record Rooted (b : List ℕ) (i c : ℕ) (m : Node) : Type 0 where
+  pub level : Level b i m
+  pub other : Occupied (heap b) c
+  pub small : sizeAt (heap b) i + sizeAt (heap b) c < 1048576
+
+pub rooted : {b : List ℕ} {i c : ℕ} {m : Node} → Asks b i c → i ≢ 0 → c ≢ 0 → m ≡ nodeOf (heap b) i → Rooted b i c m
+rooted {b} {i} {c} A p q e = record { level = record { running = A .0; occupied = link-occupied (heap b) i (A .1) p; is = e }; other = link-occupied (heap b) c (A .2) q; small = A .3 }
+
+module _ {b : List ℕ} {i c : ℕ} {m : Node} (R : Rooted b i c m) where
+  H : Linked (heap b)
+  H = R .level .running .linked
+
+  pub root-size : size (node i (m .key) (m .value) (tree (heap b) (m .left)) (tree (heap b) (m .right))) ≡ sizeAt (heap b) i
+  root-size = sym (ap size (read-tree (R .level))) ∙ tree-size (heap b) H i (named-occupied (heap b) i (R .level .occupied))
+
+  pub other-size : size (tree (heap b) c) ≡ sizeAt (heap b) c
+  other-size = tree-size (heap b) H c (named-occupied (heap b) c (R .other))
+
+  pub other-some : 1 ≤ size (tree (heap b) c)
+  unfolding size
+  other-some = rw (tree-node (heap b) H c (R .other)) (omega arith)

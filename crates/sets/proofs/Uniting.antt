@@ -1,6 +1,5 @@
 -- Union is right because code and rule take the same root: a side is empty, or the left is at least as large as the right, or it is smaller.
-use mathlib.Core.Path.{_≡_, refl, ap, sym, subst, _∙_}
-use mathlib.Core.Logic.{_≢_}
+use mathlib.Core.Path.{_≡_, refl, subst}
 use Prim.Native.Nat.{ℕ, zero, suc, _+_, _≤_, _<_}
 use mathlib.Core.List.{List}
 use borrow.Author.Tests.{le-leb, lt-leb}
@@ -8,22 +7,20 @@ use native.Mathlib.Omega.{arith}
 use Rattle.model.specs.Tree.{Tree, leaf, node, size}
 use Rattle.model.specs.Supply.{Make, done, apart, _>>=_, _>>_}
 use Rattle.model.specs.Rules.{join, split, mergedLeft, mergedRight, unionBy}
-use Rattle.model.specs.Heap.{Occupied, Linked, sizeAt, load, tree}
+use Rattle.model.specs.Heap.{sizeAt, load, tree}
 use Rattle.model.specs.Block.{heap}
-use Rattle.model.proofs.Loads.{tree-node, tree-size}
-use Rattle.model.proofs.Lookups.{link-occupied}
 use Rattle.model.proofs.Growing.{named-occupied}
 use Rattle.model.proofs.Sizes.{unionBy-size}
 use Rattle.model.proofs.Steady.{onward, unionBy-steady}
 use Rattle.block.specs.declared.Made.{Made}
 use Rattle.block.specs.declared.Made.the-variants.{At}
 use Rattle.block.specs.declared.Node.{Node}
-use Rattle.block.specs.Outcome.{Outcome, nodeOf}
+use Rattle.block.specs.Outcome.{Outcome}
 use Rattle.block.proofs.Outcomes.{out-done}
-use Rattle.block.proofs.Levels.{Asks, Level, read-tree}
+use Rattle.block.proofs.Levels.{Asks, read-tree}
 use Rattle.join.proofs.Joining.{join-onward}
 use Rattle.sets.specs.United.{United}
-use Rattle.sets.proofs.Chains.{Fed, Called, Chain}
+use Rattle.sets.proofs.Chains.{Fed, Called, Chain, Rooted, root-size, other-size, other-some}
 
 -- the answer as a match has told it
 pub told-union : {b e : List ℕ} {merge : ℕ → ℕ → ℕ} {l r : ℕ} (q z : Made) → q ≡ z → United b e q merge l r → United b e z merge l r
@@ -96,29 +93,7 @@ ByLeft b merge l r m = Chain b (λ n. unionBy merge n (tree (heap b) l) (tree (h
 abbrev pub ByRight : List ℕ → (ℕ → ℕ → ℕ) → ℕ → ℕ → Node → Type 0
 ByRight b merge l r m = Chain b (λ n. unionBy merge n (tree (heap b) l) (tree (heap b) r)) (turned merge) (λ o t u. join (m .key) (mergedRight merge o (m .value)) t u) r l m
 
--- two nodes, and the one that is taken has been read
-pub record Rooted (b : List ℕ) (i c : ℕ) (m : Node) : Type 0 where
-  pub level : Level b i m
-  pub other : Occupied (heap b) c
-  pub small : sizeAt (heap b) i + sizeAt (heap b) c < 1048576
-
-pub rooted : {b : List ℕ} {i c : ℕ} {m : Node} → Asks b i c → i ≢ 0 → c ≢ 0 → m ≡ nodeOf (heap b) i → Rooted b i c m
-rooted {b} {i} {c} A p q e = record { level = record { running = A .0; occupied = link-occupied (heap b) i (A .1) p; is = e }; other = link-occupied (heap b) c (A .2) q; small = A .3 }
-
 module _ {b : List ℕ} {i c : ℕ} {m : Node} (R : Rooted b i c m) (merge : ℕ → ℕ → ℕ) where
-  H : Linked (heap b)
-  H = R .level .running .linked
-
-  root-size : size (node i (m .key) (m .value) (tree (heap b) (m .left)) (tree (heap b) (m .right))) ≡ sizeAt (heap b) i
-  root-size = sym (ap size (read-tree (R .level))) ∙ tree-size (heap b) H i (named-occupied (heap b) i (R .level .occupied))
-
-  other-size : size (tree (heap b) c) ≡ sizeAt (heap b) c
-  other-size = tree-size (heap b) H c (named-occupied (heap b) c (R .other))
-
-  other-some : 1 ≤ size (tree (heap b) c)
-  unfolding size
-  other-some = rw (tree-node (heap b) H c (R .other)) (omega arith)
-
   pub left-chain : sizeAt (heap b) c ≤ sizeAt (heap b) i → ByLeft b merge i c m
   left-chain le = record {
     level = R .level;
@@ -127,7 +102,7 @@ module _ {b : List ℕ} {i c : ℕ} {m : Node} (R : Rooted b i c m) (merge : ℕ
     fits = unionBy-size merge;
     low-onward = λ n t u. onward (unionBy merge n t u) (unionBy-steady merge n t u);
     top-onward = λ o t u. join-onward (m .key) (mergedLeft merge (m .value) o) t u;
-    is = λ n. rw (read-tree (R .level)) (by-left merge n i (m .key) (m .value) (tree (heap b) (m .left)) (tree (heap b) (m .right)) (tree (heap b) c) other-some (omega (arith, root-size, other-size)));
+    is = λ n. rw (read-tree (R .level)) (by-left merge n i (m .key) (m .value) (tree (heap b) (m .left)) (tree (heap b) (m .right)) (tree (heap b) c) (other-some R) (omega (arith, root-size R, other-size R)));
   }
 
   pub right-chain : sizeAt (heap b) c < sizeAt (heap b) i → ByRight b merge c i m
@@ -138,7 +113,7 @@ module _ {b : List ℕ} {i c : ℕ} {m : Node} (R : Rooted b i c m) (merge : ℕ
     fits = λ n t u s. omega (arith, unionBy-size merge n u t s);
     low-onward = λ n t u. onward (unionBy merge n u t) (unionBy-steady merge n u t);
     top-onward = λ o t u. join-onward (m .key) (mergedRight merge o (m .value)) t u;
-    is = λ n. rw (read-tree (R .level)) (by-right merge n (tree (heap b) c) i (m .key) (m .value) (tree (heap b) (m .left)) (tree (heap b) (m .right)) other-some (omega (arith, root-size, other-size)));
+    is = λ n. rw (read-tree (R .level)) (by-right merge n (tree (heap b) c) i (m .key) (m .value) (tree (heap b) (m .left)) (tree (heap b) (m .right)) (other-some R) (omega (arith, root-size R, other-size R)));
   }
 
 -- the value that was merged

@@ -27,8 +27,8 @@ use Rattle.model.specs.Rules.{mergeBy}
 use Rattle.model.proofs.Lookups.{link-occupied}
 use Rattle.block.proofs.Levels.{read-asks}
 use Rattle.join.proofs.Splitting.{told-parts}
-use Rattle.sets.proofs.Chains.{chain-asks, chain-stop, chain-first, chain-stop-first, chain-second, chain-stop-second, chain-last, chain-done}
-use Rattle.sets.proofs.Uniting.{told-union, straight, turn, turn-back, asks-turned, left-asks, right-asks, left-empty, right-empty, ByLeft, ByRight, rooted, left-chain, right-chain, with-value}
+use Rattle.sets.proofs.Chains.{rooted, chain-asks, chain-stop, chain-first, chain-stop-first, chain-second, chain-stop-second, chain-last, chain-done}
+use Rattle.sets.proofs.Uniting.{told-union, straight, turn, turn-back, asks-turned, left-asks, right-asks, left-empty, right-empty, ByLeft, ByRight, left-chain, right-chain, with-value}
 
 abbrev μ-union : Measures 1 union-kinds.ps ℕ
 μ-union κs a = sizeAt (heap (a .0 .now)) (a .1 .1 .0) + sizeAt (heap (a .0 .now)) (a .1 .1 .1 .0)
