@@ -1,8 +1,8 @@
 -- An edit from its checks to its end, whatever its rule: what the rule made becomes the destination, or every word is as at entry.
 use mathlib.Core.Path.{_≡_, refl, ap, sym, subst, _∙_}
 use mathlib.Core.Logic.{_≢_}
-use Prim.Native.Nat.{ℕ, zero, suc, _≤_, _<_}
-use mathlib.Core.Bool.{true, false, true≢false}
+use Prim.Native.Nat.{ℕ, zero, suc, _+_, _≤_, _<_}
+use mathlib.Core.Bool.{Bool, true, false, not, true≢false}
 use mathlib.Core.Option.{Option}
 use mathlib.Core.List.{List}
 use native.Mathlib.Omega.{arith}
@@ -99,6 +99,15 @@ module _ {b c : List ℕ} {low : ℕ} {made : Made} {e : Edit} (R : Run b c low 
           let B = R .begun in
           let X = refused (B .sound) O W wb wa in
           passes (B .sound .shaped) (passes (B .sound) (passes (B .versions) (passes (B .legal) (fails (λ f. true≢false (sym (X .short) ∙ f)) (q ∙ ap (λ x. ended x (e .answer)) z, X .same)))))
+
+-- what the test of a rule number tells
+pub rule-known : (r : Bool) {legal : Bool} → r ≡ legal → not r ≡ false → legal ≡ true
+rule-known true e t = sym e
+rule-known false e t = absurd (true≢false t)
+
+pub rule-unknown : (r : Bool) {legal : Bool} → r ≡ legal → not r ≡ true → legal ≡ false
+rule-unknown true e t = absurd (true≢false (sym t))
+rule-unknown false e t = sym e
 
 -- a rule number that is not known
 pub rule-refused : {b : List ℕ} {a : Answer} (e : Edit) → SoundBlock b → Versions (e .versions) → e .legal ≡ false → a ≡ refusal RULE → Edits b b e a

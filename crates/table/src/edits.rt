@@ -3,6 +3,7 @@ use crate::answers::Answer;
 use crate::answers::after;
 use crate::answers::plain;
 use crate::checks::admit;
+use crate::checks::difference_rule;
 use crate::checks::union_rule;
 use block::Found;
 use block::Made;
@@ -18,7 +19,7 @@ ghost use Rattle.model.specs.Rules.{remove};
 ghost use Rattle.model.specs.Heap.{Named, sizeAt, tree};
 ghost use Rattle.model.specs.Block.{heap};
 ghost use Rattle.model.specs.Moves.{Running, HeldBelow};
-ghost use Rattle.model.specs.Calls.{Fresh, Edits, inserting, removing, copying, clearing, uniting};
+ghost use Rattle.model.specs.Calls.{Fresh, Edits, inserting, removing, copying, clearing, uniting, lessening};
 ghost use Rattle.block.specs.Outcome.{Outcome, Stands, answer};
 ghost use Rattle.table.specs.Answers.{answerOf, isAbsent, Settled};
 
@@ -136,5 +137,23 @@ pub fn union(b: &mut [u32], dst: u32, left: u32, right: u32, rule: u32) -> Answe
     let l = root(b, left);
     let r = root(b, right);
     let made = sets::union(b, rule, l, r);
+    plain(settle(b, dst, from, made))
+}
+
+// Version dst becomes left less right; the rule decides on a key that both have, and cancelling passes over nodes that both share.
+pub fn difference(b: &mut [u32], dst: u32, left: u32, right: u32, rule: u32, cancel: bool) -> Answer
+    ensures { λ r. ⌜ Edits (now (b .entry)) (now (b .exit)) (lessening (now (b .entry)) dst left right rule cancel) (answerOf r) ⌝ }
+{
+    let n = admit(b, dst, left, right);
+    if n != 0 {
+        return plain(n);
+    }
+    if !difference_rule(rule, cancel) {
+        return plain(RULE);
+    }
+    let from = makes_from(b);
+    let l = root(b, left);
+    let r = root(b, right);
+    let made = sets::difference(b, rule, cancel, l, r);
     plain(settle(b, dst, from, made))
 }

@@ -7,6 +7,7 @@ pub mod reads;
 pub use answers::Answer;
 pub use edits::clear;
 pub use edits::copy;
+pub use edits::difference;
 pub use edits::fresh;
 pub use edits::insert;
 pub use edits::remove;
