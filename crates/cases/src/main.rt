@@ -2,11 +2,13 @@
 use table::Answer;
 use table::clear;
 use table::copy;
+use table::difference;
 use table::fresh;
 use table::insert;
 use table::lookup;
 use table::remove;
 use table::size;
+use table::union;
 ghost use Prim.Native.Nat.{_≤_, _<_};
 
 fn text(s: &[u8]) {
@@ -58,19 +60,53 @@ fn exact_room() {
     text(b"\n");
 }
 
-// Each call that names a version, the destination before the source.
-fn name_version(v: u32) {
+// Each call that names a version, in each place where it does.
+fn reads_of(v: u32) {
     let mut b = [0u32; 210];
     fresh(&mut b, 32);
     show(b": lookup", lookup(&b, v, 1));
     show(b", size", size(&b, v));
-    show(b", insert", insert(&mut b, v, 0, 1, 1));
-    show(b", from", insert(&mut b, 0, v, 1, 1));
-    show(b", remove", remove(&mut b, v, 0, 1));
-    show(b", from", remove(&mut b, 0, v, 1));
-    show(b", copy", copy(&mut b, v, 0));
-    show(b", from", copy(&mut b, 0, v));
     show(b", clear", clear(&mut b, v));
+}
+
+fn edits_of(v: u32) {
+    let mut b = [0u32; 210];
+    fresh(&mut b, 32);
+    show(b", insert", insert(&mut b, v, 0, 1, 1));
+    show(b" and", insert(&mut b, 0, v, 1, 1));
+    show(b", remove", remove(&mut b, v, 0, 1));
+    show(b" and", remove(&mut b, 0, v, 1));
+}
+
+fn copies_of(v: u32) {
+    let mut b = [0u32; 210];
+    fresh(&mut b, 32);
+    show(b", copy", copy(&mut b, v, 0));
+    show(b" and", copy(&mut b, 0, v));
+}
+
+fn unions_of(v: u32) {
+    let mut b = [0u32; 210];
+    fresh(&mut b, 32);
+    show(b", union", union(&mut b, v, 0, 0, 0));
+    show(b" and", union(&mut b, 0, v, 0, 0));
+    show(b" and", union(&mut b, 0, 0, v, 0));
+}
+
+fn differences_of(v: u32) {
+    let mut b = [0u32; 210];
+    fresh(&mut b, 32);
+    show(b", difference", difference(&mut b, v, 0, 0, 0, true));
+    show(b" and", difference(&mut b, 0, v, 0, 0, true));
+    show(b" and", difference(&mut b, 0, 0, v, 0, true));
+}
+
+fn name_version(v: u32) {
+    reads_of(v);
+    edits_of(v);
+    copies_of(v);
+    unions_of(v);
+    differences_of(v);
     text(b"\n");
 }
 
@@ -86,6 +122,29 @@ fn largest() {
     show(b"case 11: N 4096", fresh(&mut b, 4096));
     let mut c = [0u32; 24914];
     show(b", N 4128", fresh(&mut c, 4128));
+    text(b"\n");
+}
+
+// A version number is looked at before a rule number.
+fn union_rules() {
+    let mut b = [0u32; 210];
+    fresh(&mut b, 32);
+    show(b"rules: union by 4", union(&mut b, 0, 0, 0, 4));
+    show(b", by 5", union(&mut b, 0, 0, 0, 5));
+    show(b", of version 16 by 5", union(&mut b, 0, 16, 0, 5));
+    text(b"\n");
+}
+
+fn difference_rules() {
+    let mut b = [0u32; 210];
+    fresh(&mut b, 32);
+    show(
+        b"rules: difference by 3",
+        difference(&mut b, 0, 0, 0, 3, true),
+    );
+    show(b", by 4", difference(&mut b, 0, 0, 0, 4, false));
+    show(b", by 2", difference(&mut b, 0, 0, 0, 2, false));
+    show(b", by 2 cancelling", difference(&mut b, 0, 0, 0, 2, true));
     text(b"\n");
 }
 
@@ -121,8 +180,8 @@ fn chain(b: &mut [u32], n: u32)
     }
 }
 
-// No node is free, so only what makes nothing succeeds.
-fn full_chain() {
+// No node is free in a chain of 4,096, so only what makes nothing succeeds.
+fn full_inserts() {
     let mut b = [0u32; 24721];
     chain(&mut b, 4096);
     show(b"chain of 4096: insert new", insert(&mut b, 0, 0, 5000, 1));
@@ -130,18 +189,29 @@ fn full_chain() {
     show(b", remove last", remove(&mut b, 0, 0, 4096));
     show(b", absent", remove(&mut b, 0, 0, 5000));
     show(b", first", remove(&mut b, 1, 0, 1));
-    show(b", copy", copy(&mut b, 2, 0));
+}
+
+fn full_copies() {
+    let mut b = [0u32; 24721];
+    chain(&mut b, 4096);
+    show(b", copy", copy(&mut b, 1, 0));
+    show(b", union", union(&mut b, 2, 0, 1, 0));
+    show(b", difference", difference(&mut b, 2, 0, 1, 0, false));
     show(b", clear", clear(&mut b, 0));
     text(b"\n");
 }
 
-// The insert of an equal last key makes a node for each of the chain: 2,048 are free, then 2,016.
+// The insert of an equal last key makes a node for each of a chain's: 2,047 are free, then 2,048.
 fn half_chain() {
     let mut b = [0u32; 24721];
     chain(&mut b, 2048);
-    show(b"chain of 2048: insert", insert(&mut b, 1, 0, 2048, 1));
-    chain(&mut b, 2080);
-    show(b", of 2080: insert", insert(&mut b, 1, 0, 2080, 1));
+    insert(&mut b, 1, 1, 1, 1);
+    show(
+        b"chain of 2048: insert equal, one fewer free",
+        insert(&mut b, 2, 0, 2048, 1),
+    );
+    clear(&mut b, 1);
+    show(b", exact room", insert(&mut b, 2, 0, 2048, 1));
     text(b"\n");
 }
 
@@ -149,6 +219,9 @@ fn main() {
     exact_room();
     known_versions();
     largest();
-    full_chain();
+    union_rules();
+    difference_rules();
+    full_inserts();
+    full_copies();
     half_chain();
 }
