@@ -1,4 +1,3 @@
-pub mod Answers
 pub mod Area
 pub mod Links
 pub mod Tallies

@@ -8,9 +8,9 @@ use lib.ListN.{length}
 use lib.Dec.{eqb}
 use native.Mathlib.Omega.{arith}
 use Rattle.model.specs.Heap.{Named, sizeAt, Linked}
-use Rattle.area.specs.Answers.{Tells, Each}
+use Rattle.model.specs.Tells.{Tells, Each}
 use Rattle.area.specs.Area.{areaWord, area, NodeOk}
-use Rattle.area.proofs.Answers.{tells-eqb}
+use Rattle.model.proofs.Tells.{tells-eqb}
 use Rattle.area.proofs.Area.{live, dead, not-live, within-area}
 
 module _ (a : List ℕ) (i l r s c : ℕ) (el : l ≡ areaWord a 2 i) (er : r ≡ areaWord a 3 i) (es : s ≡ areaWord a 4 i) (ec : c ≡ areaWord a 5 i) where

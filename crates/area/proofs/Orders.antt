@@ -11,10 +11,10 @@ use Rattle.model.specs.Tree.{node, Entry, entries, AllBelow, AllAbove, Ordered}
 use Rattle.model.specs.Heap.{Occupied, Named, load, tree, Linked}
 use Rattle.model.proofs.Loads.{tree-node, tree-ind, sizeAt-occupied}
 use Rattle.model.proofs.Lookups.{link-occupied}
-use Rattle.area.specs.Answers.{Tells, Each}
+use Rattle.model.specs.Tells.{Tells, Each}
 use Rattle.area.specs.Area.{areaWord, area, AreaOk}
 use Rattle.area.specs.Order.{Down, Ends, stop, on, Before, SideOk, OrderOk}
-use Rattle.area.proofs.Answers.{tells-ltb}
+use Rattle.model.proofs.Tells.{tells-ltb}
 use Rattle.area.proofs.Area.{within-area}
 use Rattle.area.proofs.Ends.{ends-once, some-end}
 

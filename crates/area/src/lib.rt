@@ -3,7 +3,7 @@ ghost use mathlib.Core.Path.{_≡_};
 ghost use mathlib.Core.Bool.{true};
 ghost use Prim.Native.Nat.{_/_, _%_, _≤_};
 ghost use lib.ListN.{length};
-ghost use Rattle.area.specs.Answers.{Tells};
+ghost use Rattle.model.specs.Tells.{Tells};
 ghost use Rattle.area.specs.Area.{area, AreaOk, AtMost, LinkTally};
 
 mod nodes;

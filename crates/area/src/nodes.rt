@@ -7,7 +7,7 @@ ghost use mathlib.Core.Path.{_≡_};
 ghost use mathlib.Core.Bool.{true};
 ghost use Prim.Native.Nat.{_*_, _≤_};
 ghost use lib.ListN.{length};
-ghost use Rattle.area.specs.Answers.{Tells, Each};
+ghost use Rattle.model.specs.Tells.{Tells, Each};
 ghost use Rattle.area.specs.Area.{areaWord, area, NodeOk, AtMost, Counts, LinkTally};
 
 // Whether node i is as it has to be, order and count apart.

@@ -5,7 +5,7 @@ ghost use mathlib.Core.Path.{_≡_};
 ghost use Prim.Native.Nat.{_-_, _*_, _<_, _≤_};
 ghost use lib.ListN.{length};
 ghost use Rattle.model.specs.Heap.{Occupied, Linked};
-ghost use Rattle.area.specs.Answers.{Tells, Each};
+ghost use Rattle.model.specs.Tells.{Tells, Each};
 ghost use Rattle.area.specs.Area.{area};
 ghost use Rattle.area.specs.Order.{Down, Ends, Notes, SideOk, OrderOk};
 

@@ -3,7 +3,7 @@ ghost use mathlib.Core.Path.{_≡_};
 ghost use Prim.Native.Nat.{_+_, _-_, _*_, _^_, _<_, _≤_};
 ghost use lib.ListN.{length, getD, set};
 ghost use Rattle.model.specs.Heap.{Named, sizeAt};
-ghost use Rattle.area.specs.Answers.{Tells};
+ghost use Rattle.model.specs.Tells.{Tells};
 ghost use Rattle.area.specs.Area.{areaWord, area};
 
 // A word among numbers whose sums do not overflow.

@@ -8,36 +8,18 @@ use lib.Seq.{ext-getD, getD-set-same, getD-set-other}
 use borrow.Author.Tests.{lt-ltb, le-ltb}
 use native.Mathlib.Omega.{arith}
 use native.Mathlib.Nat.{zero-div}
-use native.Mathlib.Decide.{ℕ-discrete, decLe, decLt}
+use native.Mathlib.Decide.{ℕ-discrete, decLt}
 use Rattle.model.specs.Tree.{leaf}
 use Rattle.area.proofs.Tallies.{zeros, at-most}
 use Rattle.model.specs.Heap.{Occupied, Named, load, tree, version}
 use Rattle.model.specs.Block.{word, room, nodeWord, bit, occupiedAt, heap, Shaped, SoundBlock}
-use Rattle.audit.specs.Fresh.{Fitting, freshBlock, Freshened}
+use Rattle.model.specs.Calls.{Fitting, freshBlock}
 
 pub fitting-shaped : (b : List ℕ) (n : ℕ) → n ≡ room b → Fitting (length b) n → Shaped b
 fitting-shaped b n e F = let G : Fitting (length b) (room b) = rw e at F in record { least = G .least; most = G .most; whole = G .whole; long = G .long }
 
 pub shaped-fitting : (b : List ℕ) (n : ℕ) → n ≡ room b → Shaped b → Fitting (length b) n
 shaped-fitting b n e S = rw e (record { least = S .least; most = S .most; whole = S .whole; long = S .long })
-
-fitting? : (words n : ℕ) → Dec (Fitting words n)
-fitting? words n = go (decLe 32 n) (decLe n 4096) (ℕ-discrete (n % 32) 0) (ℕ-discrete words (17 + n / 32 + 6 * n))
-  where
-    go : Dec (32 ≤ n) → Dec (n ≤ 4096) → Dec (n % 32 ≡ 0) → Dec (words ≡ 17 + n / 32 + 6 * n) → Dec (Fitting words n)
-    go (yes p) (yes q) (yes w) (yes l) = yes (record { least = p; most = q; whole = w; long = l })
-    go (no p) _ _ _ = no (λ F. p (F .least))
-    go (yes _) (no q) _ _ = no (λ F. q (F .most))
-    go (yes _) (yes _) (no w) _ = no (λ F. w (F .whole))
-    go (yes _) (yes _) (yes _) (no l) = no (λ F. l (F .long))
-
--- one answer and one content
-pub freshened-once : (b c d : List ℕ) (n r s : ℕ) → Freshened b c n r → Freshened b d n s → (r ≡ s) × (c ≡ d)
-freshened-once b c d n r s R S = go (fitting? (length b) n)
-  where
-    go : Dec (Fitting (length b) n) → (r ≡ s) × (c ≡ d)
-    go (yes F) = let p = R .yes F in let q = S .yes F in (p .0 ∙ sym (q .0), p .1 ∙ sym (q .1))
-    go (no F) = let p = R .no F in let q = S .no F in (p .0 ∙ sym (q .0), p .1 ∙ sym (q .1))
 
 fresh-room : (n : ℕ) → room (freshBlock n) ≡ n
 unfolding freshBlock

@@ -13,9 +13,9 @@ use native.Mathlib.Numerals.{add-one}
 use native.Mathlib.Decide.{ℕ-discrete}
 use Rattle.model.specs.Heap.{Named, hit, hits}
 use Rattle.model.specs.Block.{word, room, occupiedAt}
-use Rattle.area.specs.Answers.{Tells}
+use Rattle.model.specs.Tells.{Tells}
 use Rattle.area.specs.Area.{areaWord, area, AtMost}
-use Rattle.area.proofs.Answers.{tells-eqb, each-more, each-join}
+use Rattle.model.proofs.Tells.{tells-eqb, each-more, each-join}
 use Rattle.area.proofs.Area.{dead, live}
 use Rattle.area.proofs.Tallies.{hits-le, bumped}
 use Rattle.audit.specs.Whole.{RootsOk, RootTally, CountOk, CountsOk}

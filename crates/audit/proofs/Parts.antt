@@ -13,9 +13,9 @@ use Rattle.model.specs.Tree.{Ordered}
 use Rattle.model.specs.Heap.{Heap, Occupied, Named, sizeAt, load, tree, refs, Linked, Kept, Sound}
 use Rattle.model.specs.Block.{word, room, nodeWord, occupiedAt, heap, Shaped, SoundBlock}
 use Rattle.model.proofs.Steps.{refs-unoccupied}
-use Rattle.area.specs.Answers.{Tells, Each}
+use Rattle.model.specs.Tells.{Tells, Each}
 use Rattle.area.specs.Area.{areaWord, area, AreaOk, LinkTally}
-use Rattle.area.proofs.Answers.{tells-map}
+use Rattle.model.proofs.Tells.{tells-map}
 use Rattle.area.proofs.Area.{getD-past, within-area}
 use Rattle.audit.specs.Whole.{nodesOf, RootsOk, RootTally, CountsOk}
 

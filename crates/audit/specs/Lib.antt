@@ -1,5 +1,1 @@
-pub mod Answers
 pub mod Whole
-pub mod Checks
-pub mod Fresh
-pub mod Heard

@@ -6,7 +6,7 @@ use mathlib.Core.List.{List}
 use lib.ListN.{getD, drop}
 use Rattle.model.specs.Heap.{Named, hits}
 use Rattle.model.specs.Block.{word, room, occupiedAt}
-use Rattle.area.specs.Answers.{Each}
+use Rattle.model.specs.Tells.{Each}
 use Rattle.area.specs.Area.{areaWord, area}
 
 -- the words of a block from its first node word

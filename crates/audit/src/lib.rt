@@ -2,11 +2,9 @@
 use area::words::wide;
 ghost use mathlib.Core.Path.{_≡_};
 ghost use Rattle.model.specs.Block.{Shaped, SoundBlock};
-ghost use Rattle.area.specs.Answers.{Tells};
-ghost use Rattle.audit.specs.Checks.{Checked};
-ghost use Rattle.audit.specs.Fresh.{Fitting, Freshened};
+ghost use Rattle.model.specs.Tells.{Tells};
+ghost use Rattle.model.specs.Calls.{Fitting, Checked, Fresh, refusal};
 
-pub mod inbox;
 mod whole;
 
 const SHAPE: u32 = 1;
@@ -64,9 +62,9 @@ pub fn check(b: &[u32]) -> u32
     0
 }
 
-// A block of N = n with sixteen empty versions.
+// A block of N = n with sixteen empty versions. The answer has no field but its number.
 pub fn fresh(b: &mut [u32], n: u32) -> u32
-    ensures { λ r. ⌜ Freshened (now (b .entry)) (now (b .exit)) n r ⌝ }
+    ensures { λ r. ⌜ Fresh (now (b .entry)) (now (b .exit)) n (refusal r) ⌝ }
 {
     if !fits(b.len(), wide(n)) {
         return SHAPE;

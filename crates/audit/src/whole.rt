@@ -10,7 +10,7 @@ ghost use Prim.Native.Nat.{_+_, _*_, _/_, _<_, _≤_};
 ghost use lib.ListN.{length};
 ghost use lib.Dec.{eqb};
 ghost use Rattle.model.specs.Block.{room, Shaped, SoundBlock};
-ghost use Rattle.area.specs.Answers.{Tells};
+ghost use Rattle.model.specs.Tells.{Tells};
 ghost use Rattle.area.specs.Area.{AtMost};
 ghost use Rattle.audit.specs.Whole.{nodesOf, RootsOk, RootTally, CountOk, CountsOk};
 

@@ -12,9 +12,9 @@ use native.Mathlib.Decide.{ℕ-discrete}
 use Rattle.model.specs.Block.{word, bit}
 use Rattle.model.specs.Inbox.{countOf, heardBit, SoundInbox}
 use Rattle.model.proofs.Heard.{unheard-bit}
-use Rattle.inbox.specs.Answers.{Tells}
+use Rattle.model.specs.Tells.{Tells}
 use Rattle.inbox.specs.Heard.{WordClear, Below}
-use Rattle.inbox.proofs.Answers.{tells-eqb}
+use Rattle.model.proofs.Tells.{tells-eqb}
 
 below-pow : (x k : ℕ) → x / 2 ^ k ≡ 0 → x < 2 ^ k
 below-pow x k e =

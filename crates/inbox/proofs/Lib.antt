@@ -1,4 +1,3 @@
-pub mod Answers
 pub mod Highs
 pub mod Marks
 pub mod Sums

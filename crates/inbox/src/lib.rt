@@ -5,7 +5,8 @@ ghost use Prim.Native.Nat.{_+_, _^_, _<_, _≤_};
 ghost use lib.ListN.{length, replicate};
 ghost use Rattle.model.specs.Inbox as model;
 ghost use Rattle.model.specs.Inbox.{SoundInbox};
-ghost use Rattle.inbox.specs.Answers.{Tells, CheckedInbox, Begun, Asked};
+ghost use Rattle.model.specs.Tells.{Tells};
+ghost use Rattle.model.specs.Link.{CheckedInbox, Begin, Missing};
 ghost use Rattle.inbox.specs.Heard.{Below, WordClear};
 
 const SHAPE: u32 = 1;
@@ -142,7 +143,7 @@ fn clear(x: &mut [u32])
 
 // Begin: any 130 words will do, as all are written.
 pub fn begin(x: &mut [u32], batch: u32) -> u32
-    ensures { λ r. ⌜ Begun (now (x .entry)) (now (x .exit)) batch r ⌝ }
+    ensures { λ r. ⌜ Begin (now (x .entry)) (now (x .exit)) batch r ⌝ }
 {
     if !shape(x) {
         return SHAPE;
@@ -154,7 +155,7 @@ pub fn begin(x: &mut [u32], batch: u32) -> u32
 
 // The missing question on its own: 4,294,967,295 while count is 0.
 pub fn question(x: &[u32]) -> Reply
-    ensures { λ r. ⌜ Asked (now (x .entry)) (r .number) (r .missing) ⌝ }
+    ensures { λ r. ⌜ Missing (now (x .entry)) (r .number) (r .missing) ⌝ }
 {
     let number = check(x);
     if number != 0 {

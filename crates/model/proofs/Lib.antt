@@ -35,6 +35,7 @@ pub mod Picks
 pub mod Deltas
 pub mod DeltaRoom
 pub mod Tests
+pub mod Tells
 pub mod Maps
 pub mod Digits
 pub mod Lines

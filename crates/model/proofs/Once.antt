@@ -5,11 +5,11 @@ use mathlib.Core.Bool.{Bool, true, false}
 use mathlib.Core.Option.{Option, none, some}
 use mathlib.Core.List.{List}
 use Rattle.model.specs.Block.{Words}
-use Rattle.model.specs.Calls.{Check, fails, passes, Answer, Edit, Reads, Edits, Fresh}
+use Rattle.model.specs.Calls.{Check, fails, passes, Checked, Answer, Edit, Reads, Edits, Fresh}
 use Rattle.model.specs.Frame.{Frame, parse}
 use Rattle.model.specs.Inbox.{heardAt}
 use Rattle.model.specs.Lists.{Report, Pieces, Lists}
-use Rattle.model.specs.Link.{Parse, Begin, Missing, Heard, Step, unchanged, Takes, Says, Receive}
+use Rattle.model.specs.Link.{Parse, CheckedInbox, Begin, Missing, Heard, Step, unchanged, Takes, Says, Receive}
 use Rattle.model.proofs.Pinned.{edited-once}
 
 -- a check goes one way
@@ -18,6 +18,13 @@ check-once (fails p r) (fails q s) f g = f r s
 check-once (fails p r) (passes q n) f g = absurd (p q)
 check-once (passes p m) (fails q s) f g = absurd (q p)
 check-once (passes p m) (passes q n) f g = g m n
+
+-- the check of a block, and of an inbox
+pub checked-once : (b : List ℕ) (n m : ℕ) → Checked b n → Checked b m → n ≡ m
+checked-once b n m A C = check-once A C (λ p q. p ∙ sym q) (λ A C. check-once A C (λ p q. p ∙ sym q) (λ p q. p ∙ sym q))
+
+pub checked-inbox-once : (x : List ℕ) (n m : ℕ) → CheckedInbox x n → CheckedInbox x m → n ≡ m
+checked-inbox-once x n m A C = check-once A C (λ p q. p ∙ sym q) (λ A C. check-once A C (λ p q. p ∙ sym q) (λ p q. p ∙ sym q))
 
 -- a call that only reads
 pub reads-once : (b versions : List ℕ) (answer a c : Answer) → Reads b versions answer a → Reads b versions answer c → a ≡ c

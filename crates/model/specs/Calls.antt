@@ -43,7 +43,11 @@ unfoldable pub Versions : List ℕ → Type 0
 Versions [] = Unit {0}
 Versions (v ∷ vs) = (v < 16) × Versions vs
 
--- the checks that every call but fresh begins with: the block, then its versions; n is 0 where they pass
+-- the checks of a block; n is 0 where they pass
+abbrev pub Checked : (b : List ℕ) (n : ℕ) → Type 0
+Checked b n = Check (Shaped b) (n ≡ SHAPE) (Check (SoundBlock b) (n ≡ DAMAGED) (n ≡ 0))
+
+-- the checks that every call but fresh begins with: the block, then its versions
 abbrev pub Admitted : (b versions : List ℕ) (n : ℕ) → Type 0
 Admitted b versions n = Check (Shaped b) (n ≡ SHAPE) (Check (SoundBlock b) (n ≡ DAMAGED) (Check (Versions versions) (n ≡ VERSION) (n ≡ 0)))
 

@@ -6,6 +6,7 @@ pub mod Delta
 pub mod Heap
 pub mod Block
 pub mod Numbers
+pub mod Tells
 pub mod Frame
 pub mod Inbox
 pub mod Replica

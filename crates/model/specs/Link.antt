@@ -22,6 +22,10 @@ abbrev pub Parse : (said : Option Frame) (number : ℕ) (fields : Frame) → Typ
 Parse none number fields = (number ≡ FRAME) × (fields ≡ record { batch = 0; index = 0; count = 0; kind = 0; key = 0; value = 0 })
 Parse (some f) number fields = (number ≡ 0) × (fields ≡ f)
 
+-- the checks of an inbox; n is 0 where they pass
+abbrev pub CheckedInbox : (x : List ℕ) (n : ℕ) → Type 0
+CheckedInbox x n = Check (length x ≡ 130) (n ≡ SHAPE) (Check (SoundInbox x) (n ≡ DAMAGED) (n ≡ 0))
+
 -- begin checks the length only, then writes the batch and zeros
 abbrev pub Begin : (x after : List ℕ) (batch number : ℕ) → Type 0
 Begin x after batch number = Check (length x ≡ 130) ((number ≡ SHAPE) × (after ≡ x)) ((number ≡ 0) × (after ≡ begun batch))

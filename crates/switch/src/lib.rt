@@ -1,5 +1,5 @@
 // What the switch's host calls: one call each, and nothing else.
-ghost use Rattle.audit.specs.Checks.{Checked};
+ghost use Rattle.model.specs.Calls.{Checked};
 
 #[no_mangle]
 pub extern "C" fn ksk_audit(block: &[u32]) -> u32

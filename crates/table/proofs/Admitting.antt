@@ -1,5 +1,5 @@
 -- The checks that every call begins with: what they refuse, and what a call may go on with.
-use mathlib.Core.Path.{_≡_, refl, ap, sym, subst, _∙_}
+use mathlib.Core.Path.{_≡_, refl, ap, sym, _∙_}
 use mathlib.Core.Logic.{_≢_}
 use Prim.Native.Nat.{ℕ, zero, suc, _≤_, _<_}
 use mathlib.Core.Bool.{Bool, true, false, _&&_, not}
@@ -7,19 +7,15 @@ use mathlib.Core.List.{List, [], _∷_}
 use lib.Dec.{eqb, leb}
 use borrow.Author.Tests.{le-leb, lt-leb}
 use native.Mathlib.Omega.{arith}
-use native.Mathlib.Decide.{ℕ-discrete}
-use Rattle.model.specs.Block.{Shaped, SoundBlock}
-use Rattle.model.specs.Numbers.{SHAPE, DAMAGED, VERSION}
-use Rattle.model.specs.Calls.{Check, fails, passes, Answer, refusal, Versions, Admitted, Edit, Reads, Edits}
-use Rattle.audit.specs.Checks.{Checked}
+use Rattle.model.specs.Block.{SoundBlock}
+use Rattle.model.specs.Numbers.{VERSION}
+use Rattle.model.specs.Calls.{fails, passes, Answer, refusal, Versions, Checked, Admitted, Edit, Reads, Edits}
 
 -- the block's check decides the first two
 pub checked-refused : (b vs : List ℕ) (n : ℕ) → Checked b n → n ≢ 0 → Admitted b vs n
-checked-refused b vs n C ne = go (ℕ-discrete n 1)
-  where
-    go : Dec (n ≡ 1) → Admitted b vs n
-    go (yes e) = fails (C .shape e) e
-    go (no e) = let two : n ≡ 2 = omega (arith, C .small) in passes (C .shaped e) (fails (C .damaged two) two)
+checked-refused b vs n (fails p e) ne = fails p e
+checked-refused b vs n (passes p (fails q e)) ne = passes p (fails q e)
+checked-refused b vs n (passes p (passes q e)) ne = absurd (ne e)
 
 pub checked-versions : (b vs : List ℕ) → SoundBlock b → (Versions vs → ⊥) → Admitted b vs VERSION
 checked-versions b vs B unknown = passes (B .shaped) (passes B (fails unknown refl))

@@ -1,4 +1,3 @@
 pub mod Admitting
 pub mod Settling
 pub mod Rules
-pub mod Freshening

@@ -6,7 +6,7 @@ use lib.ListN.{length}
 use borrow.Author.Needs.{needs}
 use native.Mathlib.Omega.{arith}
 use borrow.Author.Tests.{not-false}
-use Rattle.area.proofs.Answers.{tells-yes, tells-no, tells-map}
+use Rattle.model.proofs.Tells.{tells-yes, tells-no, tells-map}
 use Rattle.area.proofs.Links.{nodes-linked, linked-nodes}
 use Rattle.area.proofs.Orders.{area-yes, area-orders}
 use Rattle.area.proofs.area_ok.Statement.{statement}

@@ -2,7 +2,7 @@
 use Prim.Native.Nat.{_+_, _*_, _/_}
 use native.Mathlib.Omega.{arith}
 use borrow.Author.Needs.{needs}
-use Rattle.area.proofs.Answers.{tells-eqb}
+use Rattle.model.proofs.Tells.{tells-eqb}
 use Rattle.audit.proofs.fits.Statement.{statement}
 use Rattle.audit.proofs.fits.Tie as tie
 

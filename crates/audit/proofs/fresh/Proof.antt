@@ -4,9 +4,9 @@ use Prim.Native.Nat.{_-_, _≤_}
 use lib.ListN.{length, length-set}
 use borrow.Author.Needs.{needs}
 use native.Mathlib.Omega.{arith}
-use Rattle.audit.specs.Fresh.{Fitting}
+use Rattle.model.specs.Calls.{fails, passes, Fitting}
 use Rattle.audit.proofs.FreshBlock.{Writing, writing-first, writing-more, written}
-use Rattle.area.proofs.Answers.{tells-yes, tells-no}
+use Rattle.model.proofs.Tells.{tells-yes, tells-no}
 use Rattle.audit.proofs.fresh.Statement.{statement}
 use Rattle.audit.proofs.fresh.Tie as tie
 
@@ -26,11 +26,9 @@ returns : tie.Need-returns Inv-loop μ-loop
 returns c =
     let st = c .before .before .before .before in
     let b = st .args .b .now in
-    let n = st .args .n in
     let w = c .before .before .wide in
     let f = c .before .fits2 in
-    let z : Fitting (length b) n → ⊥ = λ G. tells-no (f .result) (f .ensures) (c .if1 .taken) (subst (Fitting (length b)) (sym (w .ensures .0)) G) in
-    record { yes = λ G. absurd (z G); no = λ _. (refl, refl) }
+    fails (λ G. tells-no (f .result) (f .ensures) (c .if1 .taken) (subst (Fitting (length b)) (sym (w .ensures .0)) G)) (refl, refl)
 
 slice-write-b : tie.Need-slice-write-b Inv-loop μ-loop
 slice-write-b c =
@@ -97,7 +95,7 @@ returns-2 c =
     let lp = c .before .loop in
     let le : length (lp .b) ≡ length b = lp .inv .2 ∙ simp length-set in
     let e : lp .i ≡ length (lp .b) = omega arith in
-    record { yes = λ _. (refl, written (lp .b) n (rw le F) (subst (Writing (lp .b) n) e (lp .inv .3))); no = λ z. absurd (z F) }
+    passes F (refl, written (lp .b) n (rw le F) (subst (Writing (lp .b) n) e (lp .inv .3)))
 
 pub fresh-spec : {M : Type 1} → statement M
 fresh-spec =

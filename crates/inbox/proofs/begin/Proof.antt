@@ -1,10 +1,11 @@
 -- Where the length is right all words are zeros when the batch is written to the first; where it is not, nothing is written.
-use mathlib.Core.Path.{_≡_}
+use mathlib.Core.Path.{_≡_, refl}
 use lib.ListN.{length}
 use borrow.Author.Needs.{needs}
 use native.Mathlib.Omega.{arith}
-use Rattle.inbox.proofs.Answers.{tells-yes, tells-no}
-use Rattle.inbox.proofs.Answered.{begun-shape, begun-done}
+use Rattle.model.proofs.Tells.{tells-yes, tells-no}
+use Rattle.model.specs.Calls.{fails}
+use Rattle.inbox.proofs.Answered.{begun-done}
 use Rattle.inbox.proofs.begin.Statement.{statement}
 use Rattle.inbox.proofs.begin.Tie as tie
 
@@ -19,7 +20,7 @@ same-length : tie.Need-same-length
 same-length c = search needs
 
 returns : tie.Need-returns
-returns c = begun-shape _ (tells-no (c .before .shape .result) (c .before .shape .ensures) (c .if1 .taken))
+returns c = fails (tells-no (c .before .shape .result) (c .before .shape .ensures) (c .if1 .taken)) (refl, refl)
 
 clear-requires : tie.Need-clear-requires
 clear-requires c κs = search needs

@@ -2,13 +2,14 @@
 use borrow.Author.Needs.{needs}
 use native.Mathlib.Omega.{arith}
 use Rattle.model.specs.Inbox.{SoundInbox}
+use Rattle.model.proofs.Tells.{check-sound}
 use Rattle.inbox.proofs.Answered.{asked-refused, asked-uncounted, asked-counted}
 use Rattle.inbox.proofs.question.Statement.{statement}
 use Rattle.inbox.proofs.question.Tie as tie
 
 -- the check found nothing
 sound : (c : tie.Else1) → SoundInbox (c .before .before .before .args .x .now)
-sound c = c .before .check .ensures .sound (c .if1 .left)
+sound c = check-sound (c .before .check .ensures) (c .if1 .left)
 
 check-requires : tie.Need-check-requires
 check-requires c κs = search needs

@@ -1,6 +1,6 @@
 -- The two branches are the two sorts of nodes: six zeros, or named links and the sum of their sizes, which fits because it is taken of words as plain numbers.
 use borrow.Author.Needs.{needs}
-use Rattle.area.proofs.Answers.{tells-yes, tells-no}
+use Rattle.model.proofs.Tells.{tells-yes, tells-no}
 use Rattle.area.proofs.Area.{live, named-le}
 use Rattle.area.proofs.Links.{node-dead, node-live}
 use Rattle.area.proofs.nodes.node_ok.Statement.{statement}

@@ -5,9 +5,9 @@ use Prim.Native.Nat.{_+_, _-_, _*_, _≤_}
 use lib.ListN.{length}
 use borrow.Author.Needs.{needs}
 use native.Mathlib.Omega.{arith}
-use Rattle.area.specs.Answers.{Each}
+use Rattle.model.specs.Tells.{Each}
 use Rattle.area.specs.Area.{area, NodeOk, LinkTally}
-use Rattle.area.proofs.Answers.{tells-yes, tells-no, each-none, each-more}
+use Rattle.model.proofs.Tells.{tells-yes, tells-no, each-none, each-more}
 use Rattle.area.proofs.Tallies.{at-most-le, links-none, links-more}
 use Rattle.area.proofs.nodes.nodes_ok.Statement.{statement}
 use Rattle.area.proofs.nodes.nodes_ok.Tie as tie

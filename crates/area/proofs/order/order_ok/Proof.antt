@@ -1,7 +1,7 @@
 -- A node without a count is not occupied and needs no order; of any other both sides are tested.
 use borrow.Author.Needs.{needs}
 use native.Mathlib.Omega.{arith}
-use Rattle.area.proofs.Answers.{tells-yes, tells-no, tells-map}
+use Rattle.model.proofs.Tells.{tells-yes, tells-no, tells-map}
 use Rattle.area.proofs.Area.{live, not-live}
 use Rattle.area.proofs.order.order_ok.Statement.{statement}
 use Rattle.area.proofs.order.order_ok.Tie as tie

@@ -4,9 +4,9 @@ use Prim.Native.Nat.{_+_, _-_, _≤_}
 use lib.ListN.{replicate}
 use borrow.Author.Needs.{needs}
 use native.Mathlib.Omega.{arith}
-use Rattle.area.specs.Answers.{Each}
+use Rattle.model.specs.Tells.{Each}
 use Rattle.area.specs.Order.{OrderOk, Notes}
-use Rattle.area.proofs.Answers.{tells-yes, tells-no, each-none, each-more}
+use Rattle.model.proofs.Tells.{tells-yes, tells-no, each-none, each-more}
 use Rattle.area.proofs.Tallies.{zeros}
 use Rattle.area.proofs.Ends.{notes-none}
 use Rattle.area.proofs.order.orders_ok.Statement.{statement}

@@ -4,7 +4,7 @@ use Prim.Native.Nat.{_+_, _-_, _*_, _/_, _%_, _≤_}
 use borrow.Author.Needs.{needs}
 use native.Mathlib.Omega.{arith}
 use Rattle.model.specs.Block.{occupiedAt}
-use Rattle.area.proofs.Answers.{tells-yes, tells-no, each-none}
+use Rattle.model.proofs.Tells.{tells-yes, tells-no, each-none}
 use Rattle.audit.proofs.Marks.{words-more}
 use Rattle.audit.specs.Whole.{CountOk, CountsOk}
 use Rattle.audit.proofs.whole.counts_ok.Statement.{statement}

@@ -5,7 +5,7 @@ use Prim.Native.Nat.{_+_, _-_, _≤_, _<_}
 use lib.ListN.{length}
 use borrow.Author.Needs.{needs}
 use native.Mathlib.Omega.{arith}
-use Rattle.area.proofs.Answers.{tells-yes, tells-no}
+use Rattle.model.proofs.Tells.{tells-yes, tells-no}
 use Rattle.area.proofs.Area.{named-le}
 use Rattle.area.proofs.Tallies.{at-most}
 use Rattle.audit.specs.Whole.{RootsOk, RootTally}

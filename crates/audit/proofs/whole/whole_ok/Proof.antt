@@ -5,7 +5,7 @@ use lib.ListN.{length}
 use borrow.Author.Needs.{needs}
 use native.Mathlib.Omega.{arith}
 use borrow.Author.Tests.{not-false}
-use Rattle.area.proofs.Answers.{tells-yes, tells-no}
+use Rattle.model.proofs.Tells.{tells-yes, tells-no}
 use Rattle.area.proofs.Tallies.{zeros, at-most-le}
 use Rattle.audit.proofs.Parts.{area-long, sound-parts, last-answer}
 use Rattle.audit.proofs.whole.whole_ok.Statement.{statement}

@@ -4,7 +4,7 @@ use Prim.Native.Nat.{_+_, _-_, _*_, _/_, _^_, _≤_, _<_}
 use borrow.Author.Needs.{needs}
 use native.Mathlib.Omega.{arith}
 use Rattle.model.specs.Block.{word, room, occupiedAt}
-use Rattle.area.proofs.Answers.{tells-yes, tells-no, each-none}
+use Rattle.model.proofs.Tells.{tells-yes, tells-no, each-none}
 use Rattle.audit.specs.Whole.{CountOk, CountsOk}
 use Rattle.audit.proofs.Marks.{marks-more, marks-no, bits-next}
 use Rattle.audit.proofs.whole.word_ok.Statement.{statement}

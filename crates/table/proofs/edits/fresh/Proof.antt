@@ -1,6 +1,7 @@
 -- The audit's fresh, its number as an answer.
 use borrow.Author.Needs.{needs}
-use Rattle.table.proofs.Freshening.{freshened}
+use mathlib.Core.Path.{sym, subst}
+use Rattle.model.specs.Calls.{Fresh}
 use Rattle.table.proofs.edits.fresh.Statement.{statement}
 use Rattle.table.proofs.edits.fresh.Tie as tie
 
@@ -14,7 +15,7 @@ same-length : tie.Need-same-length
 same-length c = search needs
 
 returns : tie.Need-returns
-returns c = freshened (c .before .before .before .fresh .ensures) (c .plain .ensures)
+returns c = subst (Fresh _ _ _) (sym (c .plain .ensures)) (c .before .before .before .fresh .ensures)
 
 pub fresh-spec : {M : Type 1} → statement M
 fresh-spec = tie.close (tie.spec fresh-requires plain-requires same-length returns)

@@ -2,7 +2,7 @@
 use Prim.Native.Nat.{ℕ, _≤_, _<_}
 use mathlib.Core.Bool.{Bool, true, false}
 
--- the answer r is whether P
+-- the answer says whether P, exactly
 abbrev pub Tells : Bool → Type 0 → Type 0
 Tells true P = P
 Tells false P = P → ⊥
