@@ -182,7 +182,7 @@ module _ {b : List ℕ} {goal : ℕ → Make Tree} {low : ℕ → Tree → Tree 
 
       as-second : {g : List ℕ} {q : Made} → Fed f g q low (m .right) (p .right) → (n : ℕ) → Enough n → Outcome f g q (low n right (got .right))
       as-second {g} {q} B n lt =
-          subst (λ t. Outcome f g q (low n t (got .right))) (grown-trans (heap b) (heap e) (heap f) (D .came .grown) G .trees (m .right) (read-right R))
+          subst (λ t. Outcome f g q (low n t (got .right))) (grown-trans (D .came .grown) G .trees (m .right) (read-right R))
           (subst (λ t. Outcome f g q (low n (tree (heap f) (m .right)) t)) (G .trees (p .right) (D .right)) (B n (omega (arith, chain-second .fewer))))
 
       then : {g : List ℕ} {q : Made} → ((n : ℕ) → Enough n → Outcome f g q (later n got (tree (heap f) x))) → Ends g q
