@@ -1,15 +1,23 @@
 -- The checks that every call begins with: what they refuse, and what a call may go on with.
 use mathlib.Core.Path.{_≡_, refl, ap, sym, _∙_}
 use mathlib.Core.Logic.{_≢_}
-use Prim.Native.Nat.{ℕ, zero, suc, _≤_, _<_}
+use Prim.Native.Nat.{ℕ, _≤_, _<_}
 use mathlib.Core.Bool.{Bool, true, false, _&&_, not}
 use mathlib.Core.List.{List, [], _∷_}
 use lib.Dec.{eqb, leb}
 use borrow.Author.Tests.{le-leb, lt-leb}
 use native.Mathlib.Omega.{arith}
+<<<<<<< HEAD
 use Rattle.model.specs.Block.{SoundBlock}
 use Rattle.model.specs.Numbers.{VERSION}
 use Rattle.model.specs.Calls.{fails, passes, Answer, refusal, Versions, Checked, Admitted, Edit, Reads, Edits}
+=======
+use native.Mathlib.Decide.{ℕ-discrete}
+use Rattle.model.specs.Block.{SoundBlock}
+use Rattle.model.specs.Numbers.{VERSION}
+use Rattle.model.specs.Calls.{fails, passes, Answer, refusal, Versions, Admitted, Edit, Reads, Edits}
+use Rattle.audit.specs.Checks.{Checked}
+>>>>>>> b0cbb52411a6b4ef804c7d0dbf26b2fec0aff5a2
 
 -- the block's check decides the first two
 pub checked-refused : (b vs : List ℕ) (n : ℕ) → Checked b n → n ≢ 0 → Admitted b vs n
