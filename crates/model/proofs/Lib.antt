@@ -36,6 +36,7 @@ pub mod Deltas
 pub mod DeltaRoom
 pub mod Tests
 pub mod Tells
+pub mod Checks
 pub mod Maps
 pub mod Digits
 pub mod Lines

@@ -1,13 +1,11 @@
 -- Answers of tests, and tests one after another.
-use mathlib.Core.Path.{_≡_, refl, sym, _∙_}
+use mathlib.Core.Path.{_≡_, refl, sym}
 use Prim.Native.Nat.{ℕ, _+_, _≤_, _<_}
 use mathlib.Core.Bool.{Bool, true, false, not, true≢false}
 use lib.Dec.{eqb, ltb}
 use borrow.Author.Tests.{eqb-true, eqb-false, ltb-true, ltb-false}
 use native.Mathlib.Omega.{arith}
 use native.Mathlib.Decide.{ℕ-discrete, decLe}
-use Rattle.model.specs.Numbers.{SHAPE, DAMAGED}
-use Rattle.model.specs.Calls.{Check, fails, passes}
 use Rattle.model.specs.Tells.{Tells, Each}
 
 -- where the code went on after `if !r { return .. }`, and where it did not
@@ -36,12 +34,6 @@ tells-ltb x y {P} f g = go (ltb x y) refl
     go : (r : Bool) → ltb x y ≡ r → Tells r P
     go true e = f (ltb-true x y e)
     go false e = λ p. let h = g p in omega (arith, ltb-false x y e)
-
--- what a check of shape and soundness says where it gave 0
-pub check-sound : {Shape Sound : Type 0} {n : ℕ} → Check Shape (n ≡ SHAPE) (Check Sound (n ≡ DAMAGED) (n ≡ 0)) → n ≡ 0 → Sound
-check-sound (fails p e) z = let f : _≡_ {A = ℕ} 1 0 = sym e ∙ z in absurd (omega arith)
-check-sound (passes p (fails q e)) z = let f : _≡_ {A = ℕ} 2 0 = sym e ∙ z in absurd (omega arith)
-check-sound (passes p (passes q e)) z = q
 
 -- one number after another
 pub each-none : (k : ℕ) (P : ℕ → Type 0) → Each k k P

@@ -7,23 +7,11 @@ use mathlib.Core.List.{List, [], _∷_}
 use lib.Dec.{eqb, leb}
 use borrow.Author.Tests.{le-leb, lt-leb}
 use native.Mathlib.Omega.{arith}
-<<<<<<< HEAD
-use Rattle.model.specs.Block.{SoundBlock}
-use Rattle.model.specs.Numbers.{VERSION}
-use Rattle.model.specs.Calls.{fails, passes, Answer, refusal, Versions, Checked, Admitted, Edit, Reads, Edits}
-=======
-use native.Mathlib.Decide.{ℕ-discrete}
-use Rattle.model.specs.Block.{SoundBlock}
-use Rattle.model.specs.Numbers.{VERSION}
-use Rattle.model.specs.Calls.{fails, passes, Answer, refusal, Versions, Admitted, Edit, Reads, Edits}
-use Rattle.audit.specs.Checks.{Checked}
->>>>>>> b0cbb52411a6b4ef804c7d0dbf26b2fec0aff5a2
+use Rattle.model.proofs.Checks.{check-map}
 
 -- the block's check decides the first two
 pub checked-refused : (b vs : List ℕ) (n : ℕ) → Checked b n → n ≢ 0 → Admitted b vs n
-checked-refused b vs n (fails p e) ne = fails p e
-checked-refused b vs n (passes p (fails q e)) ne = passes p (fails q e)
-checked-refused b vs n (passes p (passes q e)) ne = absurd (ne e)
+checked-refused b vs n C ne = check-map C (λ e. e) (λ C. check-map C (λ e. e) (λ e. absurd (ne e)))
 
 pub checked-versions : (b vs : List ℕ) → SoundBlock b → (Versions vs → ⊥) → Admitted b vs VERSION
 checked-versions b vs B unknown = passes (B .shaped) (passes B (fails unknown refl))

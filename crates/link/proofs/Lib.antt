@@ -1,0 +1,3 @@
+pub mod Changes
+pub mod Lines
+pub mod Possible

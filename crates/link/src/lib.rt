@@ -1,0 +1,192 @@
+// The calls of the link: what a line says, and what a standby does with it. Begin and the missing question are the inbox's own.
+use audit::audit;
+use block::Made;
+use block::makes_from;
+use block::root;
+use frame::Frame;
+use frame::Parsed;
+use inbox::heard;
+use inbox::mark;
+use inbox::missing;
+use inbox::sound;
+use table::edits::is_absent;
+use table::edits::settle;
+use table::edits::without;
+use tree::find;
+use tree::insert;
+ghost use mathlib.Core.Path.{_≡_};
+ghost use Prim.Native.Nat.{_<_};
+ghost use Rattle.model.specs.Block.{SoundBlock};
+ghost use Rattle.model.specs.Inbox.{heardAt, SoundInbox};
+ghost use Rattle.model.specs.Frame as lines;
+ghost use Rattle.model.specs.Link.{Parse, Takes, Receive};
+ghost use Rattle.frame.specs.Fields.{fieldsOf};
+ghost use Rattle.block.specs.Outcome.{Outcome};
+ghost use Rattle.link.specs.Answers.{heardOf, step, Ready, Belongs, ruleOf, Editing, Fit};
+
+const SHAPE: u32 = 1;
+
+const DAMAGED: u32 = 2;
+
+const VERSION: u32 = 3;
+
+const FRAME: u32 = 7;
+
+const BATCH: u32 = 8;
+
+const COUNT: u32 = 9;
+
+// 0 and a line's fields, or FRAME and zeros.
+pub struct Said {
+    pub number: u32,
+    pub fields: Frame,
+}
+
+// The call's number, 1 for a repeat, and how many frames are missing; zeros on refusal.
+pub struct Heard {
+    pub number: u32,
+    pub again: u32,
+    pub missing: u32,
+}
+
+// What a line says on its own.
+pub fn parse(line: &[u8]) -> Said
+    ensures { λ r. ⌜ Parse (lines.parse (now (line .entry))) (r .number) (fieldsOf (r .fields)) ⌝ }
+{
+    let Parsed::Good(f) = frame::parse(line) else {
+        let none = Frame {
+            batch: 0,
+            index: 0,
+            count: 0,
+            kind: 0,
+            key: 0,
+            value: 0,
+        };
+        return Said {
+            number: FRAME,
+            fields: none,
+        };
+    };
+    Said {
+        number: 0,
+        fields: f,
+    }
+}
+
+fn refused(number: u32) -> Heard
+    ensures { λ r. ⌜ heardOf r ≡ record { number = number; again = 0; missing = 0 } ⌝ }
+{
+    Heard {
+        number: number,
+        again: 0,
+        missing: 0,
+    }
+}
+
+// The checks that need no line.
+fn ready(b: &[u32], x: &[u32], version: u32) -> u32
+    ensures { λ r. ⌜ Ready (now (b .entry)) (now (x .entry)) version r ⌝ }
+{
+    if !audit::shape(b) {
+        return SHAPE;
+    }
+    if !inbox::shape(x) {
+        return SHAPE;
+    }
+    if !audit(b) {
+        return DAMAGED;
+    }
+    if !sound(x) {
+        return DAMAGED;
+    }
+    if 15 < version {
+        return VERSION;
+    }
+    0
+}
+
+// Whether the frame is of the batch that is heard. A count of 0 is not known yet, so any will do.
+fn belongs(x: &[u32], f: Frame) -> u32
+    requires { ⌜ SoundInbox (now x) ⌝ }
+    ensures { λ r. ⌜ Belongs (now (x .entry)) f r ⌝ }
+{
+    if f.batch != x[0] {
+        return BATCH;
+    }
+    if x[1] == 0 {
+        return 0;
+    }
+    if x[1] != f.count {
+        return COUNT;
+    }
+    0
+}
+
+// A put inserts, a remove removes, and "nothing" makes nothing.
+fn apply(b: &mut [u32], version: u32, f: Frame) -> Made
+    requires { ⌜ SoundBlock (now b) × (version < 16) ⌝ }
+    ensures { λ r. ⌜ Outcome (now (b .entry)) (now (b .exit)) r (ruleOf (now (b .entry)) version f) ⌝ }
+{
+    let source = root(b, version);
+    if f.kind == 0 {
+        return Made::At(source);
+    }
+    let found = find(b, source, f.key);
+    if f.kind == 1 {
+        return insert(b, is_absent(found), source, f.key, f.value);
+    }
+    without(b, source, f.key, found)
+}
+
+// The edit of a frame from its first make to its end.
+fn edit(b: &mut [u32], version: u32, f: Frame) -> u32
+    requires { ⌜ SoundBlock (now b) × (version < 16) ⌝ }
+    ensures { λ r. ⌜ Editing (now (b .entry)) (now (b .exit)) version f r ⌝ }
+{
+    let from = makes_from(b);
+    let made = apply(b, version, f);
+    settle(b, version, from, made)
+}
+
+// A repeat changes nothing. A new line is marked only once its edit is done: one that found no room may come again.
+fn hear(b: &mut [u32], x: &mut [u32], version: u32, f: Frame) -> Heard
+    requires { ⌜ Fit (now b) (now x) version f ⌝ }
+    ensures { λ r. ⌜ Takes (step (now (b .entry)) (now (x .entry)) (now (b .exit)) (now (x .exit)) r) version (fieldsOf f) (heardAt (now (x .entry)) (f .index)) ⌝ }
+{
+    if heard(x, f.index) {
+        return Heard {
+            number: 0,
+            again: 1,
+            missing: missing(x),
+        };
+    }
+    let n = edit(b, version, f);
+    if n != 0 {
+        return refused(n);
+    }
+    mark(x, f.count, f.index);
+    Heard {
+        number: 0,
+        again: 0,
+        missing: missing(x),
+    }
+}
+
+// One line at a standby. That lines heard one after another carry it from A to B is `standby-replicates` (crate model, proofs/Standbys),
+// which is stated of this contract.
+pub fn receive(b: &mut [u32], x: &mut [u32], version: u32, line: &[u8]) -> Heard
+    ensures { λ r. ⌜ Receive (step (now (b .entry)) (now (x .entry)) (now (b .exit)) (now (x .exit)) r) version (now (line .entry)) ⌝ }
+{
+    let n = ready(b, x, version);
+    if n != 0 {
+        return refused(n);
+    }
+    let Parsed::Good(f) = frame::parse(line) else {
+        return refused(FRAME);
+    };
+    let m = belongs(x, f);
+    if m != 0 {
+        return refused(m);
+    }
+    hear(b, x, version, f)
+}

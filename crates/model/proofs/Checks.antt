@@ -1,0 +1,24 @@
+-- Checks one after another: either way of a check taken on, and what holds where the number that they give is 0.
+use mathlib.Core.Path.{_≡_, sym, _∙_}
+use Prim.Native.Nat.{ℕ, suc}
+use native.Mathlib.Omega.{arith}
+use Rattle.model.specs.Numbers.{SHAPE, DAMAGED}
+use Rattle.model.specs.Calls.{Check, fails, passes}
+
+pub check-map : {P R S M N : Type 0} → Check P R M → (R → S) → (M → N) → Check P S N
+check-map (fails p r) f g = fails p (f r)
+check-map (passes p m) f g = passes p (g m)
+
+-- a check that gives suc k where it fails
+module _ {P M : Type 0} {n : ℕ} (k : ℕ) where
+  pub check-holds : Check P (n ≡ suc k) M → n ≡ 0 → P
+  check-holds (fails p e) z = let f : suc k ≡ 0 = sym e ∙ z in absurd (omega arith)
+  check-holds (passes p m) z = p
+
+  pub check-next : Check P (n ≡ suc k) M → n ≡ 0 → M
+  check-next (fails p e) z = let f : suc k ≡ 0 = sym e ∙ z in absurd (omega arith)
+  check-next (passes p m) z = m
+
+-- shape, then soundness
+pub check-sound : {Shape Sound : Type 0} {n : ℕ} → Check Shape (n ≡ SHAPE) (Check Sound (n ≡ DAMAGED) (n ≡ 0)) → n ≡ 0 → Sound
+check-sound C z = check-holds 1 (check-next 0 C z) z
