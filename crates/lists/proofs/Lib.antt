@@ -1,0 +1,3 @@
+pub mod Reporting
+pub mod Laying
+pub mod Listing
