@@ -7,6 +7,9 @@ use mathlib.Core.List.{List, [], _∷_}
 use lib.Dec.{eqb, leb}
 use borrow.Author.Tests.{le-leb, lt-leb}
 use native.Mathlib.Omega.{arith}
+use Rattle.model.specs.Block.{SoundBlock}
+use Rattle.model.specs.Numbers.{VERSION}
+use Rattle.model.specs.Calls.{fails, passes, Answer, refusal, Versions, Checked, Admitted, Edit, Reads, Edits}
 use Rattle.model.proofs.Checks.{check-map}
 
 -- the block's check decides the first two

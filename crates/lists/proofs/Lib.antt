@@ -1,0 +1,7 @@
+pub mod Reporting
+pub mod Laying
+pub mod Listing
+pub mod Holding
+pub mod Collecting
+pub mod Framing
+pub mod Sending
