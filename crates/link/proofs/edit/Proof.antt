@@ -14,7 +14,7 @@ run : (c : tie.After-apply) → Run (c .before .before .before .before .before .
 run c = let a = c .before .before .before .before .before .args in
     let p = c .before .before .before .before .before .pre in
     record {
-      begun = record { sound = p .0; versions = one-known (p .1); legal = refl; known = p .1 };
+      begun = record { sound = p .0; versions = one-known (p .1); legal = refl };
       low-is = c .before .before .makes-from .ensures;
       out = c .apply .ensures;
       ordered = rule-ordered (fieldsOf (a .f)) _ _ (version-ordered (p .0 .sound) (a .version) (p .1));
@@ -27,7 +27,9 @@ apply-requires : tie.Need-apply-requires
 apply-requires c κs = search needs
 
 settle-requires : tie.Need-settle-requires
-settle-requires c κs = settle-asks (run (c .before .before .before))
+settle-requires c κs =
+    let R = settle-asks (run (c .before .before .before)) in
+    (R .0, c .before .before .before .before .before .before .before .before .pre .1, R .1, R .2, R .3)
 
 same-length : tie.Need-same-length
 same-length c = search needs
