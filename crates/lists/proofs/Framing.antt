@@ -48,7 +48,7 @@ module _ (batch puts : ℕ) (ws : List ℕ) (i : ℕ) where
   frame-remove zero at ne a h = absurd (ne refl)
   frame-remove (suc n) at ne a h = rw a (ap (frameOf batch (suc n) i) (change-remove h))
 
-all-wide : (fs : List Frame) → Wide (map line fs)
+pub all-wide : (fs : List Frame) → Wide (map line fs)
 unfolding Wide
 all-wide [] = tt
 all-wide (f ∷ fs) = (line-length f, all-wide fs)

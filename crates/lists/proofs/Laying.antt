@@ -106,3 +106,24 @@ module _ {ps : List (List ℕ)} {start k : ℕ} {o out : List ℕ} {i : ℕ} (L 
       let r : k ≡ min (length o / 35) (length q) = rw (length-drop start ps) (L .room) in
       let t : part 35 start (length o) ps ≡ front = rw (e, r) (ap laid (sym (take-min (length o / 35) q))) in
       rw (t, front-long, ← e) (refl, L .is)
+
+-- piece i of k, cut out again
+pub laid-cut : (qs : List (List ℕ)) (k i : ℕ) (rest : List ℕ) → Wide qs → i < k → k ≤ length qs → take 35 (drop (35 * i) (laid (take k qs) ++ rest)) ≡ getD qs i []
+unfolding Wide laid
+laid-cut qs zero i rest w h m = absurd (omega arith)
+laid-cut [] (suc k) i rest w h m = absurd (omega arith)
+laid-cut (p ∷ qs) (suc k) zero rest w h m = rw append-assoc (take-at p (laid (take k qs) ++ rest) 35 (w .0))
+laid-cut (p ∷ qs) (suc k) (suc i) rest w h m =
+    let n : 35 * suc i ≡ length p + 35 * i = omega (arith, w .0) in
+    rw (append-assoc, n, drop-append-add p (laid (take k qs) ++ rest) (35 * i)) (laid-cut qs k i rest (w .1) (omega arith) (omega arith))
+
+-- the same of a part and what stood after it
+pub part-cut : (ps : List (List ℕ)) (start : ℕ) (o : List ℕ) (i : ℕ) → Wide ps → 35 * i < length (part 35 start (length o) ps)
+    → (start + i < length ps) × (take 35 (drop (35 * i) (over (part 35 start (length o) ps) o)) ≡ getD ps (start + i) [])
+part-cut ps start o i w h =
+    let q = drop start ps in
+    let k = min (length o / 35) (length q) in
+    let t = take-min (length o / 35) q in
+    let n : length (part 35 start (length o) ps) ≡ 35 * k = rw (← t) (laid-long k q (wide-drop start ps w) (omega arith)) in
+    let c = laid-cut q k i (drop (length (part 35 start (length o) ps)) o) (wide-drop start ps w) (omega arith) (omega arith) in
+    (omega (arith, length-drop start ps), rw (t, getD-drop start ps i []) at c)

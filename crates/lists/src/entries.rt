@@ -26,9 +26,10 @@ pub fn list(b: &[u32], left: u32, right: u32, start: u32, out: &mut [u32]) -> Re
     let Walked::Total(total) = walk::list(b, l, r, Wanted::Rows, start, out) else {
         return refusal(TOO_DEEP);
     };
+    let k = shown(total, start, room);
     Report {
         number: 0,
-        written: 4 * shown(total, start, room),
+        written: 4 * k,
         total: total,
     }
 }
