@@ -15,22 +15,16 @@ fn text(s: &[u8]) {
     io::write_all(1, s);
 }
 
-// What was done, and the number that the call gave back.
-fn show(s: &[u8], a: Answer) {
-    text(s);
+// The number that a call gave back.
+fn number(a: Answer) {
     text(b" ");
     io::print_decimal(1, a.number as u64);
 }
 
-fn same(a: &[u32; 210], b: &[u32; 210]) -> bool {
-    let mut i = 0;
-    while i < 210 {
-        if a[i] != b[i] {
-            return false;
-        }
-        i += 1;
-    }
-    true
+// What was done, and that number.
+fn show(s: &[u8], a: Answer) {
+    text(s);
+    number(a);
 }
 
 // Keys 1 to n, ascending, into a version.
@@ -51,69 +45,62 @@ fn exact_room() {
     fill(&mut b, 0, 3);
     let mut crowded = b;
     insert(&mut crowded, 3, 3, 9, 9);
-    let before = crowded;
     show(b"case 10: exact room", insert(&mut b, 0, 0, 4, 4));
     show(b", one fewer", insert(&mut crowded, 0, 0, 4, 4));
-    if same(&crowded, &before) {
-        text(b" and nothing changed");
-    }
     text(b"\n");
 }
 
-// Each call that names a version, in each place where it does.
-fn reads_of(v: u32) {
-    let mut b = [0u32; 210];
-    fresh(&mut b, 32);
-    show(b": lookup", lookup(&b, v, 1));
-    show(b", size", size(&b, v));
-    show(b", clear", clear(&mut b, v));
+// One of the calls, on the versions that it names.
+fn call(b: &mut [u32], which: u32, v: u32, w: u32, x: u32, key: u32) -> Answer {
+    if which == 0 {
+        return lookup(b, v, key);
+    }
+    if which == 1 {
+        return size(b, v);
+    }
+    if which == 2 {
+        return clear(b, v);
+    }
+    if which == 3 {
+        return insert(b, v, w, key, 1);
+    }
+    if which == 4 {
+        return remove(b, v, w, key);
+    }
+    if which == 5 {
+        return copy(b, v, w);
+    }
+    if which == 6 {
+        return union(b, v, w, x, 0);
+    }
+    difference(b, v, w, x, 0, false)
 }
 
-fn edits_of(v: u32) {
-    let mut b = [0u32; 210];
-    fresh(&mut b, 32);
-    show(b", insert", insert(&mut b, v, 0, 1, 1));
-    show(b" and", insert(&mut b, 0, v, 1, 1));
-    show(b", remove", remove(&mut b, v, 0, 1));
-    show(b" and", remove(&mut b, 0, v, 1));
-}
-
-fn copies_of(v: u32) {
-    let mut b = [0u32; 210];
-    fresh(&mut b, 32);
-    show(b", copy", copy(&mut b, v, 0));
-    show(b" and", copy(&mut b, 0, v));
-}
-
-fn unions_of(v: u32) {
-    let mut b = [0u32; 210];
-    fresh(&mut b, 32);
-    show(b", union", union(&mut b, v, 0, 0, 0));
-    show(b" and", union(&mut b, 0, v, 0, 0));
-    show(b" and", union(&mut b, 0, 0, v, 0));
-}
-
-fn differences_of(v: u32) {
-    let mut b = [0u32; 210];
-    fresh(&mut b, 32);
-    show(b", difference", difference(&mut b, v, 0, 0, 0, true));
-    show(b" and", difference(&mut b, 0, v, 0, 0, true));
-    show(b" and", difference(&mut b, 0, 0, v, 0, true));
+// Each of the calls in turn.
+fn calls(b: &mut [u32], v: u32, w: u32, x: u32, key: u32) {
+    let mut which = 0;
+    while which < 8 {
+        number(call(b, which, v, w, x, key));
+        which += 1;
+    }
 }
 
 fn name_version(v: u32) {
-    reads_of(v);
-    edits_of(v);
-    copies_of(v);
-    unions_of(v);
-    differences_of(v);
+    let mut b = [0u32; 210];
+    fresh(&mut b, 32);
+    calls(&mut b, v, 0, 0, 1);
+    text(b", second:");
+    calls(&mut b, 0, v, 0, 1);
+    text(b", third:");
+    calls(&mut b, 0, 0, v, 1);
     text(b"\n");
 }
 
 fn known_versions() {
-    text(b"case 11: version 15");
+    text(b"calls: lookup, size, clear, insert, remove, copy, union, difference\n");
+    text(b"case 11: version 15 first:");
     name_version(15);
-    text(b"case 11: version 16");
+    text(b"case 11: version 16 first:");
     name_version(16);
 }
 
@@ -126,24 +113,13 @@ fn largest() {
 }
 
 // A version number is looked at before a rule number.
-fn union_rules() {
+fn known_rules() {
     let mut b = [0u32; 210];
     fresh(&mut b, 32);
     show(b"rules: union by 4", union(&mut b, 0, 0, 0, 4));
     show(b", by 5", union(&mut b, 0, 0, 0, 5));
     show(b", of version 16 by 5", union(&mut b, 0, 16, 0, 5));
-    text(b"\n");
-}
-
-fn difference_rules() {
-    let mut b = [0u32; 210];
-    fresh(&mut b, 32);
-    show(
-        b"rules: difference by 3",
-        difference(&mut b, 0, 0, 0, 3, true),
-    );
-    show(b", by 4", difference(&mut b, 0, 0, 0, 4, false));
-    show(b", by 2", difference(&mut b, 0, 0, 0, 2, false));
+    show(b", difference by 4", difference(&mut b, 0, 0, 0, 4, false));
     show(b", by 2 cancelling", difference(&mut b, 0, 0, 0, 2, true));
     text(b"\n");
 }
@@ -180,23 +156,13 @@ fn chain(b: &mut [u32], n: u32)
     }
 }
 
-// No node is free in a chain of 4,096, so only what makes nothing succeeds.
-fn full_inserts() {
+// No node is free in a chain of 4,096, so only what makes nothing succeeds; the key is the deepest.
+fn full_chain() {
     let mut b = [0u32; 24721];
     chain(&mut b, 4096);
-    show(b"chain of 4096: insert new", insert(&mut b, 0, 0, 5000, 1));
-    show(b", equal", insert(&mut b, 0, 0, 4096, 1));
-    show(b", remove last", remove(&mut b, 0, 0, 4096));
-    show(b", absent", remove(&mut b, 0, 0, 5000));
-    show(b", first", remove(&mut b, 1, 0, 1));
-}
-
-fn full_copies() {
-    let mut b = [0u32; 24721];
-    chain(&mut b, 4096);
-    show(b", copy", copy(&mut b, 1, 0));
-    show(b", union", union(&mut b, 2, 0, 1, 0));
-    show(b", difference", difference(&mut b, 2, 0, 1, 0, false));
+    text(b"chain of 4096 into version 1:");
+    calls(&mut b, 1, 0, 0, 4096);
+    show(b", remove first", remove(&mut b, 1, 0, 1));
     show(b", clear", clear(&mut b, 0));
     text(b"\n");
 }
@@ -219,9 +185,7 @@ fn main() {
     exact_room();
     known_versions();
     largest();
-    union_rules();
-    difference_rules();
-    full_inserts();
-    full_copies();
+    known_rules();
+    full_chain();
     half_chain();
 }
