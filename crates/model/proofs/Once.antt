@@ -8,6 +8,7 @@ use Rattle.model.specs.Block.{Words}
 use Rattle.model.specs.Calls.{Check, fails, passes, Checked, Answer, Edit, Reads, Edits, Fresh}
 use Rattle.model.specs.Frame.{Frame, parse}
 use Rattle.model.specs.Inbox.{heardAt}
+use Rattle.model.specs.Lists.{Report, Pieces, Lists}
 use Rattle.model.specs.Link.{Parse, CheckedInbox, Begin, Missing, Heard, Step, unchanged, Takes, Says, Receive}
 use Rattle.model.proofs.Pinned.{edited-once}
 
@@ -42,6 +43,13 @@ edits-once b x y e a c wx wy A C = check-once A C kept (λ A C. check-once A C k
 
 pub fresh-once : (b x y : List ℕ) (n : ℕ) (a c : Answer) → Fresh b x n a → Fresh b y n c → (a ≡ c) × (x ≡ y)
 fresh-once b x y n a c A C = check-once A C (λ p q. (p .0 ∙ sym (q .0), p .1 ∙ sym (q .1))) (λ p q. (p .0 ∙ sym (q .0), p .1 ∙ sym (q .1)))
+
+-- a call that lists
+pub lists-once : (b out x y : List ℕ) (start : ℕ) (p : Pieces) (a c : Report) → Lists b out x start p a → Lists b out y start p c → (a ≡ c) × (x ≡ y)
+lists-once b out x y start p a c A C = check-once A C same (λ A C. check-once A C same (λ A C. check-once A C same (λ A C. check-once A C same same)))
+  where
+    same : {r : Report} {z : List ℕ} → (a ≡ r) × (x ≡ z) → (c ≡ r) × (y ≡ z) → (a ≡ c) × (x ≡ y)
+    same f g = (f .0 ∙ sym (g .0), f .1 ∙ sym (g .1))
 
 -- the calls of the link
 

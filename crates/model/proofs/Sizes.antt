@@ -4,8 +4,8 @@ use Prim.Native.Nat.{ℕ, zero, suc, _+_, _≤_, compare, Ordering, Ordering·lt
 use mathlib.Core.Bool.{Bool, true, false, _&&_}
 use mathlib.Core.Option.{Option, none, some}
 use mathlib.Core.List.{_∷_}
-use lib.Dec.{leb, eqb}
 use lib.ListN.{length, length-append}
+use lib.Dec.{leb, eqb}
 use native.Mathlib.Omega.{arith}
 use Rattle.model.specs.Tree.{Tree, leaf, node, size, entries}
 use Rattle.model.specs.Supply.{Supply, Make, make, given}
@@ -66,31 +66,7 @@ split-size (node i h w l r) k s = go (compare k h) refl (split-size l k (given i
     go Ordering·eq e x y = rw (e, split) (omega arith)
     go Ordering·gt e x y = let p = split r k (given i s) in rw (e, split) (omega (arith, join-size h w l (p .0 .left) (p .1)))
 
-pub rest-size : (a : Tree) (h : ℕ) (o : Option ℕ) (b : Tree) (s : Supply) → size (rest a h o b s .0) ≤ suc (size a + size b)
-unfolding rest
-rest-size a h (some w) b s = omega (arith, join-size h w a b s)
-rest-size a h none b s = omega (arith, withoutKey-size join join-keeps a b s)
-
-pub difference-size : (diff : ℕ → ℕ → Option ℕ) (cancel : Bool) (l r : Tree) (s : Supply) → size (difference diff cancel l r s .0) ≤ size l
-unfolding difference size
-difference-size diff cancel leaf r s = omega arith
-difference-size diff cancel (node i h w ll lr) leaf s = omega arith
-difference-size diff cancel (node i h w ll lr) (node j g u rl rr) s = go (cancel && eqb i j) refl (difference-size diff cancel ll) (difference-size diff cancel lr)
-  where
-    go : (c : Bool) → (cancel && eqb i j) ≡ c → ((r : Tree) (s : Supply) → size (difference diff cancel ll r s .0) ≤ size ll) → ((r : Tree) (s : Supply) → size (difference diff cancel lr r s .0) ≤ size lr)
-        → size (difference diff cancel (node i h w ll lr) (node j g u rl rr) s .0) ≤ suc (size ll + size lr)
-    go true e f g′ = rw (e, difference) (omega arith)
-    go false e f g′ =
-        let p = split (node j g u rl rr) h (given i s) in
-        let x = difference diff cancel ll (p .0 .left) (p .1) in
-        let y = difference diff cancel lr (p .0 .right) (x .1) in
-        rw (e, difference) (omega (
-          arith,
-          rest-size (x .0) h (kept diff w (p .0 .found)) (y .0) (y .1),
-          f (p .0 .left) (p .1),
-          g′ (p .0 .right) (x .1),
-        ))
-
+-- a union is no larger than its two sides together
 pub unionBy-size : (merge : ℕ → ℕ → ℕ) (fuel : ℕ) (l r : Tree) (s : Supply) → size (unionBy merge fuel l r s .0) ≤ size l + size r
 unfolding unionBy size
 unionBy-size merge zero l r s = omega arith
@@ -98,27 +74,36 @@ unionBy-size merge (suc fuel) leaf r s = omega arith
 unionBy-size merge (suc fuel) (node i h w ll lr) leaf s = omega arith
 unionBy-size merge (suc fuel) (node i h w ll lr) (node j g u rl rr) s = go (leb (size (node j g u rl rr)) (size (node i h w ll lr))) refl (unionBy-size merge fuel)
   where
-    go : (c : Bool) → leb (size (node j g u rl rr)) (size (node i h w ll lr)) ≡ c → ((l r : Tree) (s : Supply) → size (unionBy merge fuel l r s .0) ≤ size l + size r)
-        → size (unionBy merge (suc fuel) (node i h w ll lr) (node j g u rl rr) s .0) ≤ suc (size ll + size lr) + suc (size rl + size rr)
-    go true e f =
+    go : (c : Bool) → leb (size (node j g u rl rr)) (size (node i h w ll lr)) ≡ c → ((x y : Tree) (t : Supply) → size (unionBy merge fuel x y t .0) ≤ size x + size y)
+        → size (unionBy merge (suc fuel) (node i h w ll lr) (node j g u rl rr) s .0) ≤ size (node i h w ll lr) + size (node j g u rl rr)
+    go true e below =
         let p = split (node j g u rl rr) h (given i s) in
         let a = unionBy merge fuel ll (p .0 .left) (p .1) in
         let b = unionBy merge fuel lr (p .0 .right) (a .1) in
-        rw (e, unionBy) (omega (
-          arith,
-          join-size h (mergedLeft merge w (p .0 .found)) (a .0) (b .0) (b .1),
-          split-size (node j g u rl rr) h (given i s),
-          f ll (p .0 .left) (p .1),
-          f lr (p .0 .right) (a .1),
-        ))
-    go false e f =
+        rw (e, unionBy) (omega (arith, split-size (node j g u rl rr) h (given i s), below ll (p .0 .left) (p .1), below lr (p .0 .right) (a .1), join-size h (mergedLeft merge w (p .0 .found)) (a .0) (b .0) (b .1)))
+    go false e below =
         let p = split (node i h w ll lr) g (given j s) in
         let a = unionBy merge fuel (p .0 .left) rl (p .1) in
         let b = unionBy merge fuel (p .0 .right) rr (a .1) in
-        rw (e, unionBy) (omega (
-          arith,
-          join-size g (mergedRight merge (p .0 .found) u) (a .0) (b .0) (b .1),
-          split-size (node i h w ll lr) g (given j s),
-          f (p .0 .left) rl (p .1),
-          f (p .0 .right) rr (a .1),
-        ))
+        rw (e, unionBy) (omega (arith, split-size (node i h w ll lr) g (given j s), below (p .0 .left) rl (p .1), below (p .0 .right) rr (a .1), join-size g (mergedRight merge (p .0 .found) u) (a .0) (b .0) (b .1)))
+
+pub rest-size : (a : Tree) (h : ℕ) (o : Option ℕ) (b : Tree) (s : Supply) → size (rest a h o b s .0) ≤ suc (size a + size b)
+unfolding rest
+rest-size a h (some w) b s = omega (arith, join-size h w a b s)
+rest-size a h none b s = omega (arith, withoutKey-size join join-keeps a b s)
+
+-- a difference is no larger than its left
+pub difference-size : (diff : ℕ → ℕ → Option ℕ) (cancel : Bool) (l r : Tree) (s : Supply) → size (difference diff cancel l r s .0) ≤ size l
+unfolding difference size
+difference-size diff cancel leaf r s = omega arith
+difference-size diff cancel (node i h w ll lr) leaf s = omega arith
+difference-size diff cancel (node i h w ll lr) (node j g u rl rr) s = go (cancel && eqb i j) refl (difference-size diff cancel ll) (difference-size diff cancel lr)
+  where
+    go : (c : Bool) → (cancel && eqb i j) ≡ c → ((x : Tree) (t : Supply) → size (difference diff cancel ll x t .0) ≤ size ll) → ((x : Tree) (t : Supply) → size (difference diff cancel lr x t .0) ≤ size lr)
+        → size (difference diff cancel (node i h w ll lr) (node j g u rl rr) s .0) ≤ suc (size ll + size lr)
+    go true e left right = rw (e, difference) (omega arith)
+    go false e left right =
+        let p = split (node j g u rl rr) h (given i s) in
+        let a = difference diff cancel ll (p .0 .left) (p .1) in
+        let b = difference diff cancel lr (p .0 .right) (a .1) in
+        rw (e, difference) (omega (arith, left (p .0 .left) (p .1), right (p .0 .right) (a .1), rest-size (a .0) h (kept diff w (p .0 .found)) (b .0) (b .1)))

@@ -7,7 +7,7 @@ use lib.ListN.{length, getD}
 use borrow.Author.Tests.{lt-ltb, ltb-true}
 use native.Mathlib.Omega.{arith}
 use Rattle.model.specs.Tree.{Tree, node}
-use Rattle.model.specs.Supply.{Supply, Make, make, next, taken, given, short}
+use Rattle.model.specs.Supply.{Supply, Make, make, _>>=_, next, taken, given, short}
 use Rattle.model.specs.Rules.{balanced, insertBy, insert, removeMin, withoutKey, removePresent, remove, join, split, unionBy, union, rest, difference}
 use Rattle.model.specs.Heap.{Heap, free, supply}
 use Rattle.model.proofs.Keeping.{Keeping, make-ok, balanced-ok, insertBy-ok, insert-ok, removeMin-ok, withoutKey-ok, removePresent-ok, remove-ok, join-ok, split-ok, unionBy-ok, union-ok, rest-ok, difference-ok}
@@ -28,6 +28,9 @@ Onward m = (s : Supply) → short s ≡ true → short (m s .1) ≡ true
 pub onward : {X : Type 0} (m : Make X) → Steady m → Onward m
 unfolding short
 onward m f s e = let q = f s in rw (q .free) (lt-ltb (length (s .free)) (m s .1 .makes) (omega (arith, q .makes, ltb-true (length (s .free)) (s .makes) e)))
+
+pub bind-onward : {X Y : Type 0} (m : Make X) (f : X → Make Y) → Onward m → ((x : X) → Onward (f x)) → Onward (m >>= f)
+bind-onward m f p q s e = q (m s .0) (m s .1) (p s e)
 
 -- the m-th make takes the m-th free number
 pub make-takes : (k v : ℕ) (l r : Tree) (s : Supply) → make k v l r s .0 ≡ node (getD (s .free) (s .makes) 0) k v l r

@@ -12,4 +12,5 @@ pub mod Inbox
 pub mod Replica
 pub mod Moves
 pub mod Calls
+pub mod Lists
 pub mod Link

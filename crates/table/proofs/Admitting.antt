@@ -1,8 +1,11 @@
 -- The checks that every call begins with: what they refuse, and what a call may go on with.
 use mathlib.Core.Path.{_≡_, refl, ap, sym, _∙_}
 use mathlib.Core.Logic.{_≢_}
-use Prim.Native.Nat.{ℕ, _<_}
+use Prim.Native.Nat.{ℕ, zero, suc, _≤_, _<_}
+use mathlib.Core.Bool.{Bool, true, false, _&&_, not}
 use mathlib.Core.List.{List, [], _∷_}
+use lib.Dec.{eqb, leb}
+use borrow.Author.Tests.{le-leb, lt-leb}
 use native.Mathlib.Omega.{arith}
 use Rattle.model.specs.Block.{SoundBlock}
 use Rattle.model.specs.Numbers.{VERSION}
@@ -77,3 +80,13 @@ admitted-edit e a (fails p r) ne q = fails p (q ∙ ap refusal r, refl)
 admitted-edit e a (passes p (fails s r)) ne q = passes p (fails s (q ∙ ap refusal r, refl))
 admitted-edit e a (passes p (passes s (fails u r))) ne q = passes p (passes s (fails u (q ∙ ap refusal r, refl)))
 admitted-edit e a (passes p (passes s (passes u r))) ne q = absurd (ne r)
+
+-- the rule numbers of difference, test by test
+pub rule-above : (rule : ℕ) (cancel : Bool) → 3 < rule → false ≡ (leb rule 3 && not (cancel && eqb rule 2))
+rule-above rule cancel p = rw (lt-leb rule 3 p)
+
+pub rule-cancels : (rule : ℕ) (cancel : Bool) → rule ≤ 3 → cancel ≡ true → not (eqb rule 2) ≡ (leb rule 3 && not (cancel && eqb rule 2))
+rule-cancels rule cancel p c = rw (le-leb rule 3 p, c)
+
+pub rule-plain : (rule : ℕ) (cancel : Bool) → rule ≤ 3 → cancel ≡ false → true ≡ (leb rule 3 && not (cancel && eqb rule 2))
+rule-plain rule cancel p c = rw (le-leb rule 3 p, c)

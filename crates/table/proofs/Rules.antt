@@ -1,15 +1,21 @@
--- Each rule's outcome from the roots that the code holds: insert and remove are told by the lookup whether the key is there.
+-- Each rule's outcome from the roots that the code holds: insert and remove are told by the lookup whether the key is there,
+-- and the fuel of union is enough.
 use mathlib.Core.Path.{_≡_, refl, sym, subst}
-use Prim.Native.Nat.{ℕ}
-use mathlib.Core.Bool.{Bool, true, false, true≢false}
+use Prim.Native.Nat.{ℕ, suc, _+_, _<_}
+use mathlib.Core.Bool.{Bool, true, false, _&&_, not, true≢false}
 use mathlib.Core.List.{List}
-use Rattle.model.specs.Tree.{Tree, leaf, lookup}
+use lib.Dec.{eqb, leb}
+use borrow.Author.Tests.{eq-eqb}
+use native.Mathlib.Omega.{arith}
+use Rattle.model.specs.Tree.{Tree, leaf, size, lookup, Ordered}
 use Rattle.model.specs.Supply.{Make, done}
-use Rattle.model.specs.Rules.{insertBy, insert, removePresent, remove}
-use Rattle.model.specs.Heap.{Named, load, tree, version}
+use Rattle.model.specs.Rules.{insertBy, insert, removePresent, remove, union, difference, diffBy}
+use Rattle.model.specs.Heap.{Named, load, tree, version, supply}
 use Rattle.model.specs.Block.{heap, SoundBlock}
 use Rattle.model.specs.Moves.{Running}
-use Rattle.model.proofs.Versions.{sound-running}
+use Rattle.model.proofs.Orders.{difference-ordered}
+use Rattle.model.proofs.Loads.{tree-size}
+use Rattle.model.proofs.Versions.{sound-running, version-ordered, cancelling-changes-nothing}
 use Rattle.block.specs.declared.Found.{Found}
 use Rattle.block.specs.declared.Found.the-variants.{Value, Absent}
 use Rattle.block.specs.declared.Made.{Made}
@@ -17,6 +23,7 @@ use Rattle.block.specs.declared.Made.the-variants.{At}
 use Rattle.block.specs.Outcome.{Outcome, answer}
 use Rattle.block.proofs.Outcomes.{out-done}
 use Rattle.tree.specs.Remade.{remade}
+use Rattle.sets.specs.United.{United}
 use Rattle.table.specs.Answers.{isAbsent}
 use Rattle.table.proofs.Settling.{Source, source-named, source-found}
 
@@ -57,3 +64,28 @@ module _ {b : List ℕ} {v r : ℕ} (S : Source b v r) where
 pub cleared : {b : List ℕ} → SoundBlock b → Outcome b b (At 0) (done leaf)
 unfolding tree load
 cleared {b} B = out-done b 0 (sound-running B) tt
+
+pub united : {b c : List ℕ} {q : Made} {merge : ℕ → ℕ → ℕ} {v w l r : ℕ} → Source b v l → Source b w r → United b c q merge l r → Outcome b c q (union merge (version (heap b) v) (version (heap b) w))
+unfolding union
+united {b} {merge = merge} {l = l} {r = r} S T U =
+    let L = S .sound .sound .kept .linked in
+    rw (← S .is, ← T .is) (U .any (suc (size (tree (heap b) l) + size (tree (heap b) r))) (omega (arith, tree-size (heap b) L l (source-named S), tree-size (heap b) L r (source-named T))))
+
+pub lessened : {b c : List ℕ} {q : Made} {v w l r : ℕ} (rule : ℕ) (cancel : Bool) → Source b v l → Source b w r → Outcome b c q (difference (diffBy rule) cancel (tree (heap b) l) (tree (heap b) r)) → Outcome b c q (difference (diffBy rule) cancel (version (heap b) v) (version (heap b) w))
+lessened rule cancel S T O = rw (← S .is, ← T .is) O
+
+-- cancelling is legal only where it changes nothing, so it keeps the order too
+pub lessened-ordered : {b : List ℕ} → SoundBlock b → (v w rule : ℕ) (cancel : Bool) → (leb rule 3 && not (cancel && eqb rule 2)) ≡ true → v < 16 → w < 16
+    → Ordered (difference (diffBy rule) cancel (version (heap b) v) (version (heap b) w) (supply (heap b)) .0)
+lessened-ordered {b} B v w rule cancel l p q = go cancel l
+  where
+    plain : Ordered (difference (diffBy rule) false (version (heap b) v) (version (heap b) w) (supply (heap b)) .0)
+    plain = difference-ordered (diffBy rule) _ _ _ (version-ordered (B .sound) v p) (version-ordered (B .sound) w q)
+
+    not-two : (t : Bool) → (t && false) ≡ true → ⊥
+    not-two true x = true≢false (sym x)
+    not-two false x = true≢false (sym x)
+
+    go : (c : Bool) → (leb rule 3 && not (c && eqb rule 2)) ≡ true → Ordered (difference (diffBy rule) c (version (heap b) v) (version (heap b) w) (supply (heap b)) .0)
+    go false l = plain
+    go true l = rw (cancelling-changes-nothing (heap b) (B .sound) rule v w (λ e. not-two (leb rule 3) (rw (eq-eqb rule 2 e) at l)) p q) plain

@@ -1,8 +1,8 @@
 -- An edit from its checks to its end, whatever its rule: what the rule made becomes the destination, or every word is as at entry.
 use mathlib.Core.Path.{_≡_, refl, ap, sym, subst, _∙_}
 use mathlib.Core.Logic.{_≢_}
-use Prim.Native.Nat.{ℕ, zero, suc, _≤_, _<_}
-use mathlib.Core.Bool.{true, false, true≢false}
+use Prim.Native.Nat.{ℕ, zero, suc, _+_, _≤_, _<_}
+use mathlib.Core.Bool.{Bool, true, false, not, true≢false}
 use mathlib.Core.Option.{Option}
 use mathlib.Core.List.{List}
 use native.Mathlib.Omega.{arith}
@@ -34,9 +34,12 @@ module _ {b : List ℕ} {v r : ℕ} (S : Source b v r) where
   pub read-asks : Shaped b × Linked (heap b) × Named (heap b) r
   read-asks = (S .sound .shaped, S .sound .sound .kept .linked, source-named)
 
+  pub source-small : sizeAt (heap b) r ≤ 4096
+  source-small = version-small (S .sound) v r (S .known) (S .is)
+
   -- what a rule of one tree asks of it
   pub rule-asks : Running b × Named (heap b) r × (sizeAt (heap b) r < 1048575)
-  rule-asks = (sound-running (S .sound), source-named, omega (arith, version-small (S .sound) v r (S .known) (S .is)))
+  rule-asks = (sound-running (S .sound), source-named, omega (arith, source-small))
 
   -- what is found from the root is the version's
   pub source-found : {o : Option ℕ} (key : ℕ) → o ≡ lookup (tree (heap b) r) key → o ≡ lookup (version (heap b) v) key
@@ -44,6 +47,10 @@ module _ {b : List ℕ} {v r : ℕ} (S : Source b v r) where
 
   pub source-size : sizeAt (heap b) r ≡ size (version (heap b) v)
   source-size = sym (tree-size (heap b) (S .sound .sound .kept .linked) r source-named) ∙ ap (λ x. size (tree (heap b) x)) (S .is)
+
+-- what a rule of two trees asks of them
+pub pair-asks : {b : List ℕ} {v w l r : ℕ} → Source b v l → Source b w r → Running b × Named (heap b) l × Named (heap b) r × (sizeAt (heap b) l + sizeAt (heap b) r < 1048576)
+pair-asks S T = (sound-running (S .sound), source-named S, source-named T, omega (arith, source-small S, source-small T))
 
 -- the two ends of a call
 pub settled-at : {b e : List ℕ} {dst n : ℕ} {q : Made} → q ≡ At n → Finished b e dst n → Settled b e dst q 0
@@ -92,6 +99,15 @@ module _ {b c : List ℕ} {low : ℕ} {made : Made} {e : Edit} (R : Run b c low 
           let B = R .begun in
           let X = refused (B .sound) O W wb wa in
           passes (B .sound .shaped) (passes (B .sound) (passes (B .versions) (passes (B .legal) (fails (λ f. true≢false (sym (X .short) ∙ f)) (q ∙ ap (λ x. ended x (e .answer)) z, X .same)))))
+
+-- what the test of a rule number tells
+pub rule-known : (r : Bool) {legal : Bool} → r ≡ legal → not r ≡ false → legal ≡ true
+rule-known true e t = sym e
+rule-known false e t = absurd (true≢false t)
+
+pub rule-unknown : (r : Bool) {legal : Bool} → r ≡ legal → not r ≡ true → legal ≡ false
+rule-unknown true e t = absurd (true≢false (sym t))
+rule-unknown false e t = sym e
 
 -- a rule number that is not known
 pub rule-refused : {b : List ℕ} {a : Answer} (e : Edit) → SoundBlock b → Versions (e .versions) → e .legal ≡ false → a ≡ refusal RULE → Edits b b e a

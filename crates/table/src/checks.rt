@@ -27,3 +27,23 @@ pub fn admit(b: &[u32], v: u32, w: u32, x: u32) -> u32
     }
     0
 }
+
+// Whether union has a rule of this number.
+pub fn union_rule(rule: u32) -> bool
+    ensures { λ r. ⌜ r ≡ leb rule 4 ⌝ }
+{
+    rule <= 4
+}
+
+// Whether difference has a rule of this number and may cancel with it: under rule 2 equal keys stay, so cancelling would lose them.
+pub fn difference_rule(rule: u32, cancel: bool) -> bool
+    ensures { λ r. ⌜ r ≡ (leb rule 3 && not (cancel && eqb rule 2)) ⌝ }
+{
+    if 3 < rule {
+        return false;
+    }
+    if cancel {
+        return rule != 2;
+    }
+    true
+}

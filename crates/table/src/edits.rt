@@ -3,6 +3,8 @@ use crate::answers::Answer;
 use crate::answers::after;
 use crate::answers::plain;
 use crate::checks::admit;
+use crate::checks::difference_rule;
+use crate::checks::union_rule;
 use block::Found;
 use block::Made;
 use block::ends::finish;
@@ -17,9 +19,11 @@ ghost use Rattle.model.specs.Rules.{remove};
 ghost use Rattle.model.specs.Heap.{Named, sizeAt, tree};
 ghost use Rattle.model.specs.Block.{heap};
 ghost use Rattle.model.specs.Moves.{Running, HeldBelow};
-ghost use Rattle.model.specs.Calls.{Fresh, Edits, inserting, removing, copying, clearing};
+ghost use Rattle.model.specs.Calls.{Fresh, Edits, inserting, removing, copying, clearing, uniting, lessening};
 ghost use Rattle.block.specs.Outcome.{Outcome, Stands, answer};
 ghost use Rattle.table.specs.Answers.{answerOf, isAbsent, Settled};
+
+const RULE: u32 = 4;
 
 const NO_ROOM: u32 = 5;
 
@@ -116,4 +120,40 @@ pub fn clear(b: &mut [u32], version: u32) -> Answer
     }
     let from = makes_from(b);
     plain(settle(b, version, from, Made::At(0)))
+}
+
+// Version dst becomes the union of left and right; the rule merges the values of a key that both have.
+pub fn union(b: &mut [u32], dst: u32, left: u32, right: u32, rule: u32) -> Answer
+    ensures { λ r. ⌜ Edits (now (b .entry)) (now (b .exit)) (uniting (now (b .entry)) dst left right rule) (answerOf r) ⌝ }
+{
+    let n = admit(b, dst, left, right);
+    if n != 0 {
+        return plain(n);
+    }
+    if !union_rule(rule) {
+        return plain(RULE);
+    }
+    let from = makes_from(b);
+    let l = root(b, left);
+    let r = root(b, right);
+    let made = sets::union(b, rule, l, r);
+    plain(settle(b, dst, from, made))
+}
+
+// Version dst becomes left less right; the rule decides on a key that both have, and cancelling passes over nodes that both share.
+pub fn difference(b: &mut [u32], dst: u32, left: u32, right: u32, rule: u32, cancel: bool) -> Answer
+    ensures { λ r. ⌜ Edits (now (b .entry)) (now (b .exit)) (lessening (now (b .entry)) dst left right rule cancel) (answerOf r) ⌝ }
+{
+    let n = admit(b, dst, left, right);
+    if n != 0 {
+        return plain(n);
+    }
+    if !difference_rule(rule, cancel) {
+        return plain(RULE);
+    }
+    let from = makes_from(b);
+    let l = root(b, left);
+    let r = root(b, right);
+    let made = sets::difference(b, rule, cancel, l, r);
+    plain(settle(b, dst, from, made))
 }

@@ -3,3 +3,14 @@ pub mod answers;
 mod checks;
 pub mod edits;
 pub mod reads;
+
+pub use answers::Answer;
+pub use edits::clear;
+pub use edits::copy;
+pub use edits::difference;
+pub use edits::fresh;
+pub use edits::insert;
+pub use edits::remove;
+pub use edits::union;
+pub use reads::lookup;
+pub use reads::size;

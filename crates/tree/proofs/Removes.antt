@@ -124,7 +124,7 @@ module _ {b : List ℕ} {n : ℕ} {m : Node} (P : Path b n m) where
         record { named = A .named; came = below q (came-bind b c e found (some r) (minimum (heap b) (m .left)) then (O .came) (came-bind c e e (tree (heap e) x) (some r) low top (back A .came) (came-done e r (A .came .running)))) }
 
 -- two trees without the key between them, by mk
-module _ {b : List ℕ} (mk : ℕ → ℕ → Tree → Tree → Make Tree) (l r : ℕ) (A : Running b × Named (heap b) l × Named (heap b) r × (sizeAt (heap b) l + sizeAt (heap b) r < 1048575)) where
+module _ {b : List ℕ} (mk : ℕ → ℕ → Tree → Tree → Make Tree) (l r : ℕ) (A : Asks b l r) where
   abbrev all : Make Tree
   all = withoutKey mk (tree (heap b) l) (tree (heap b) r)
 
@@ -152,7 +152,7 @@ module _ {b : List ℕ} (mk : ℕ → ℕ → Tree → Tree → Make Tree) (l r 
       both {e} {x} O = rw (tree-node (heap b) (A .0 .linked) l ol, tree-node (heap b) (A .0 .linked) r or, withoutKey) (subst (λ t. Outcome b e x (apart r >> (minimum (heap b) r >>= λ m. mk (m .key) (m .value) t (m .rest)))) (tree-node (heap b) (A .0 .linked) l ol) (out-apart b e r x (minimum (heap b) r >>= next) O))
 
       pub without-min : Running b × Occupied (heap b) r × (sizeAt (heap b) r < 1048575)
-      without-min = (A .0, or, omega (arith, A .3))
+      without-min = (A .0, or, omega (arith, A .3, sizeAt-occupied (heap b) (A .0 .linked) l ol, A .0 .linked .sizes l ol))
 
       pub without-stop : {e : List ℕ} → ((k v : ℕ) (t u : Tree) → Onward (mk k v t u)) → Removal b e lost.Full (minimum (heap b) r) → Outcome b e Full all
       without-stop {e} o O = both (record { named = tt; came = came-stop b e (minimum (heap b) r) next (O .came) (λ m. o (m .key) (m .value) (tree (heap b) l) (m .rest)) })
@@ -221,5 +221,5 @@ module _ {b : List ℕ} {n : ℕ} {m : Node} {k : ℕ} (I : Removing b n m k) wh
     pub remove-right-asks : Outcome b c (At x) (under (m .right)) → Asks c (m .left) x
     remove-right-asks O = up-right (I .path) O (omega (arith, removePresent-size right k (supply (heap b))))
 
-  pub remove-asks : Running b × Named (heap b) (m .left) × Named (heap b) (m .right) × (sizeAt (heap b) (m .left) + sizeAt (heap b) (m .right) < 1048575)
+  pub remove-asks : Asks b (m .left) (m .right)
   remove-asks = (L .running, read-left L, read-right L, omega (arith, read-size L, I .path .small))

@@ -170,7 +170,7 @@ pub fn remove_min(b: &mut [u32], n: u32) -> Lost
 
 // Two trees without the key between them: a sole one as it is, else the minimum of the right takes the place.
 fn without_key(b: &mut [u32], left: u32, right: u32) -> Made
-    requires { ⌜ Running (now b) × Named (heap (now b)) left × Named (heap (now b)) right × (sizeAt (heap (now b)) left + sizeAt (heap (now b)) right < 1048575) ⌝ }
+    requires { ⌜ Running (now b) × Named (heap (now b)) left × Named (heap (now b)) right × (sizeAt (heap (now b)) left + sizeAt (heap (now b)) right < 1048576) ⌝ }
     ensures { λ r. ⌜ Outcome (now (b .entry)) (now (b .exit)) r (withoutKey balanced (tree (heap (now (b .entry))) left) (tree (heap (now (b .entry))) right)) ⌝ }
 {
     if left == 0 {

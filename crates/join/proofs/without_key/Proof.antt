@@ -1,57 +1,40 @@
 -- Without the key, code and rule ask the same: is a side empty, and if not, which entry is the right's minimum.
 use borrow.Author.Needs.{needs}
-use native.Mathlib.Omega.{arith}
 use Rattle.join.proofs.without_key.Statement.{statement}
 use Rattle.join.proofs.without_key.Tie as tie
-use Rattle.model.specs.Block.{heap}
 use Rattle.model.specs.Rules.{join}
-use Rattle.model.proofs.Loads.{sizeAt-occupied}
-use Rattle.model.proofs.Lookups.{link-occupied}
-use Rattle.tree.proofs.Removes.{lost-told, sole-right, sole-left, min-right, without-stop, without-asks, without-last}
+use Rattle.tree.proofs.Removes.{lost-told, sole-right, sole-left, without-min, without-stop, without-asks, without-last}
 use Rattle.join.proofs.Joining.{join-onward}
 
--- src/lib.rt:100:9
 returns : tie.Need-returns
 returns c = let s = c .before .before in sole-right join (s .args .left) (s .args .right) (s .pre) (c .if1 .taken)
 
--- src/lib.rt:103:9
 returns-2 : tie.Need-returns-2
 returns-2 c = let s = c .before .before .before in sole-left join (s .args .left) (s .args .right) (s .pre) (c .before .if1 .left) (c .if2 .taken)
 
--- src/lib.rt:105:27
 remove-min-requires : tie.Need-remove-min-requires
 remove-min-requires c κs =
     let s = c .before .before .before .before in
-    let L = s .pre .0 .linked in
-    let o = link-occupied (heap (s .args .b .now)) (s .args .left) (s .pre .1) (c .before .before .if1 .left) in
-    let q = min-right join (s .args .left) (s .args .right) (s .pre) (c .before .before .if1 .left) (c .before .if2 .left) in
-    (q .0, q .1, omega (arith, s .pre .3, sizeAt-occupied (heap (s .args .b .now)) L (s .args .left) o, L .sizes (s .args .left) o))
+    without-min join (s .args .left) (s .args .right) (s .pre) (c .before .before .if1 .left) (c .before .if2 .left)
 
--- src/lib.rt:105:20
 enum-known-min : tie.Need-enum-known-min
 enum-known-min c = search needs
 
--- src/lib.rt:106:9
 enum-told : tie.Need-enum-told
 enum-told c = search needs
 
--- src/lib.rt:106:9
 same-length : tie.Need-same-length
 same-length c = search needs
 
--- src/lib.rt:106:9
 returns-3 : tie.Need-returns-3
 returns-3 c = let s = c .before .before .before .before .before .before .before .before .before in without-stop join (s .args .left) (s .args .right) (s .pre) (c .before .before .before .before .before .before .before .if1 .left) (c .before .before .before .before .before .before .if2 .left) join-onward (lost-told _ _ (c .enum-told .given .1) (c .before .before .before .before .remove-min .ensures))
 
--- src/lib.rt:108:5
 join-requires : tie.Need-join-requires
 join-requires c κs = let s = c .before .before .before .before .before .before .before .before .before .before .before in without-asks join (s .args .left) (s .args .right) (s .pre) (c .before .before .before .before .before .before .before .before .before .if1 .left) (c .before .before .before .before .before .before .before .before .if2 .left) (lost-told _ _ (c .before .before .min .given .1) (c .before .before .before .before .before .before .remove-min .ensures))
 
--- src/lib.rt:95:1
 same-length-2 : tie.Need-same-length-2
 same-length-2 c = search needs
 
--- src/lib.rt:95:1
 returns-4 : tie.Need-returns-4
 returns-4 c = let s = c .before .before .before .before .before .before .before .before .before .before .before .before .before .before in without-last join (s .args .left) (s .args .right) (s .pre) (c .before .before .before .before .before .before .before .before .before .before .before .before .if1 .left) (c .before .before .before .before .before .before .before .before .before .before .before .if2 .left) (lost-told _ _ (c .before .before .before .before .before .min .given .1) (c .before .before .before .before .before .before .before .before .before .remove-min .ensures)) (c .before .before .join .ensures)
 

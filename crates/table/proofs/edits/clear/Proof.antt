@@ -3,7 +3,7 @@ use borrow.Author.Needs.{needs}
 use mathlib.Core.Path.{refl, _∙_}
 use native.Mathlib.Omega.{arith}
 use Rattle.model.specs.Tree.{Ordered}
-use Rattle.model.specs.Calls.{clearing}
+use Rattle.model.specs.Calls.{Edit, clearing}
 use Rattle.block.specs.declared.Made.the-variants.{At}
 use Rattle.table.proofs.Admitting.{one-version, Admission, admission, one-known, admitted-edit}
 use Rattle.table.proofs.Settling.{Run, settle-asks, settled, plain-ended}
@@ -11,10 +11,13 @@ use Rattle.table.proofs.Rules.{cleared}
 use Rattle.table.proofs.edits.clear.Statement.{statement}
 use Rattle.table.proofs.edits.clear.Tie as tie
 
+abbrev edit : tie.Start → Edit
+edit st = let a = st .args in clearing (a .version)
+
 admitted : (c : tie.Else1) → Admission (c .before .before .before .before .args .b .now) (c .before .before .before .before .args .version) (c .before .before .before .before .args .version) (c .before .before .before .before .args .version)
 admitted c = admission _ _ _ (c .before .admit .ensures) (c .if1 .left)
 
-run : (c : tie.After-makes-from) → Run (c .before .before .before .before .before .before .args .b .now) (c .before .before .before .before .before .before .args .b .now) (c .makes-from .result) (At 0) (clearing (c .before .before .before .before .before .before .args .version))
+run : (c : tie.After-makes-from) → Run (c .before .before .before .before .before .before .args .b .now) (c .before .before .before .before .before .before .args .b .now) (c .makes-from .result) (At 0) (edit (c .before .before .before .before .before .before))
 unfolding Ordered
 run c =
     let A = admitted (c .before .before) in
@@ -35,7 +38,7 @@ same-length : tie.Need-same-length
 same-length c = search needs
 
 returns : tie.Need-returns
-returns c = admitted-edit (clearing (c .before .before .before .before .before .args .version)) _ (one-version _ (c .before .before .admit .ensures)) (c .before .if1 .taken) (c .plain .ensures)
+returns c = admitted-edit (edit (c .before .before .before .before .before)) _ (one-version _ (c .before .before .admit .ensures)) (c .before .if1 .taken) (c .plain .ensures)
 
 makes-from-requires : tie.Need-makes-from-requires
 makes-from-requires c κs = admitted (c .before) .sound .shaped
@@ -50,7 +53,8 @@ same-length-2 : tie.Need-same-length-2
 same-length-2 c = search needs
 
 returns-2 : tie.Need-returns-2
-returns-2 c = let s = c .before .before .before .settle in
+returns-2 c =
+    let s = c .before .before .before .settle in
     settled (run (c .before .before .before .before .before)) (s .result) (s .ensures) (c .plain2 .ensures ∙ plain-ended (s .result)) (λ i. omega (arith, c .before .before .before .before .before .before .before .before .before .before .slice-known .given i)) (λ i. omega (arith, c .before .slice-known2 .given i))
 
 pub clear-spec : {M : Type 1} → statement M

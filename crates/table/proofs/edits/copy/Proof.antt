@@ -2,7 +2,7 @@
 use borrow.Author.Needs.{needs}
 use mathlib.Core.Path.{refl, _∙_}
 use native.Mathlib.Omega.{arith}
-use Rattle.model.specs.Calls.{copying}
+use Rattle.model.specs.Calls.{Edit, copying}
 use Rattle.model.proofs.Versions.{version-ordered}
 use Rattle.block.specs.declared.Made.the-variants.{At}
 use Rattle.table.proofs.Admitting.{two-versions, Admission, admission, two-known, admitted-edit}
@@ -11,17 +11,22 @@ use Rattle.table.proofs.Rules.{copied}
 use Rattle.table.proofs.edits.copy.Statement.{statement}
 use Rattle.table.proofs.edits.copy.Tie as tie
 
+abbrev edit : tie.Start → Edit
+edit st = let a = st .args in copying (a .b .now) (a .dst) (a .src)
+
 admitted : (c : tie.Else1) → Admission (c .before .before .before .before .args .b .now) (c .before .before .before .before .args .dst) (c .before .before .before .before .args .src) (c .before .before .before .before .args .src)
 admitted c = admission _ _ _ (c .before .admit .ensures) (c .if1 .left)
 
-run : (c : tie.After-root) → Run (c .before .before .before .before .before .before .before .before .args .b .now) (c .before .before .before .before .before .before .before .before .args .b .now) (c .before .before .makes-from .result) (At (c .root .result)) (copying (c .before .before .before .before .before .before .before .before .args .b .now) (c .before .before .before .before .before .before .before .before .args .dst) (c .before .before .before .before .before .before .before .before .args .src))
+source : (c : tie.After-root) → Source (c .before .before .before .before .before .before .before .before .args .b .now) (c .before .before .before .before .before .before .before .before .args .src) (c .root .result)
+source c = let A = admitted (c .before .before .before .before) in record { sound = A .sound; known = A .second; is = c .root .ensures }
+
+run : (c : tie.After-root) → Run (c .before .before .before .before .before .before .before .before .args .b .now) (c .before .before .before .before .before .before .before .before .args .b .now) (c .before .before .makes-from .result) (At (c .root .result)) (edit (c .before .before .before .before .before .before .before .before))
 run c =
     let A = admitted (c .before .before .before .before) in
-    let S : Source (c .before .before .before .before .before .before .before .before .args .b .now) (c .before .before .before .before .before .before .before .before .args .src) (c .root .result) = record { sound = A .sound; known = A .second; is = c .root .ensures } in
     record {
       begun = record { sound = A .sound; versions = two-known (A .first) (A .second); legal = refl; known = A .first };
       low-is = c .before .before .makes-from .ensures;
-      out = copied S;
+      out = copied (source c);
       ordered = version-ordered (A .sound .sound) (c .before .before .before .before .before .before .before .before .args .src) (A .second);
     }
 
@@ -35,7 +40,7 @@ same-length : tie.Need-same-length
 same-length c = search needs
 
 returns : tie.Need-returns
-returns c = let a = c .before .before .before .before .before .args in admitted-edit (copying (a .b .now) (a .dst) (a .src)) _ (two-versions _ _ (c .before .before .admit .ensures)) (c .before .if1 .taken) (c .plain .ensures)
+returns c = admitted-edit (edit (c .before .before .before .before .before)) _ (two-versions _ _ (c .before .before .admit .ensures)) (c .before .if1 .taken) (c .plain .ensures)
 
 makes-from-requires : tie.Need-makes-from-requires
 makes-from-requires c κs = admitted (c .before) .sound .shaped
@@ -53,7 +58,8 @@ same-length-2 : tie.Need-same-length-2
 same-length-2 c = search needs
 
 returns-2 : tie.Need-returns-2
-returns-2 c = let s = c .before .before .before .settle in
+returns-2 c =
+    let s = c .before .before .before .settle in
     settled (run (c .before .before .before .before .before)) (s .result) (s .ensures) (c .plain2 .ensures ∙ plain-ended (s .result)) (λ i. omega (arith, c .before .before .before .before .before .before .before .before .before .before .before .before .slice-known .given i)) (λ i. omega (arith, c .before .slice-known2 .given i))
 
 pub copy-spec : {M : Type 1} → statement M

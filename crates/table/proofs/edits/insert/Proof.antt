@@ -2,7 +2,7 @@
 use borrow.Author.Needs.{needs}
 use mathlib.Core.Path.{refl, _∙_, ap}
 use native.Mathlib.Omega.{arith}
-use Rattle.model.specs.Calls.{inserting, finding}
+use Rattle.model.specs.Calls.{Edit, inserting, finding}
 use Rattle.model.proofs.Orders.{insert-ordered}
 use Rattle.model.proofs.Versions.{version-ordered}
 use Rattle.table.specs.Answers.{ended}
@@ -12,13 +12,16 @@ use Rattle.table.proofs.Rules.{inserted}
 use Rattle.table.proofs.edits.insert.Statement.{statement}
 use Rattle.table.proofs.edits.insert.Tie as tie
 
+abbrev edit : tie.Start → Edit
+edit st = let a = st .args in inserting (a .b .now) (a .dst) (a .src) (a .key) (a .value)
+
 admitted : (c : tie.Else1) → Admission (c .before .before .before .before .args .b .now) (c .before .before .before .before .args .dst) (c .before .before .before .before .args .src) (c .before .before .before .before .args .src)
 admitted c = admission _ _ _ (c .before .admit .ensures) (c .if1 .left)
 
 source : (c : tie.After-root) → Source (c .before .before .before .before .before .before .before .before .args .b .now) (c .before .before .before .before .before .before .before .before .args .src) (c .root .result)
 source c = let A = admitted (c .before .before .before .before) in record { sound = A .sound; known = A .second; is = c .root .ensures }
 
-run : (c : tie.After-insert) → Run (c .before .before .before .before .before .before .before .before .before .before .before .before .before .args .b .now) (c .insert .last .0) (c .before .before .before .before .before .before .before .makes-from .result) (c .insert .result) (inserting (c .before .before .before .before .before .before .before .before .before .before .before .before .before .args .b .now) (c .before .before .before .before .before .before .before .before .before .before .before .before .before .args .dst) (c .before .before .before .before .before .before .before .before .before .before .before .before .before .args .src) (c .before .before .before .before .before .before .before .before .before .before .before .before .before .args .key) (c .before .before .before .before .before .before .before .before .before .before .before .before .before .args .value))
+run : (c : tie.After-insert) → Run (c .before .before .before .before .before .before .before .before .before .before .before .before .before .args .b .now) (c .insert .last .0) (c .before .before .before .before .before .before .before .makes-from .result) (c .insert .result) (edit (c .before .before .before .before .before .before .before .before .before .before .before .before .before))
 run c =
     let A = admitted (c .before .before .before .before .before .before .before .before .before) in
     let S = source (c .before .before .before .before .before) in
@@ -40,7 +43,7 @@ same-length : tie.Need-same-length
 same-length c = search needs
 
 returns : tie.Need-returns
-returns c = let a = c .before .before .before .before .before .args in admitted-edit (inserting (a .b .now) (a .dst) (a .src) (a .key) (a .value)) _ (two-versions _ _ (c .before .before .admit .ensures)) (c .before .if1 .taken) (c .plain .ensures)
+returns c = admitted-edit (edit (c .before .before .before .before .before)) _ (two-versions _ _ (c .before .before .admit .ensures)) (c .before .if1 .taken) (c .plain .ensures)
 
 makes-from-requires : tie.Need-makes-from-requires
 makes-from-requires c κs = admitted (c .before) .sound .shaped
@@ -67,7 +70,8 @@ same-length-2 : tie.Need-same-length-2
 same-length-2 c = search needs
 
 returns-2 : tie.Need-returns-2
-returns-2 c = let s = c .before .before .before .settle in
+returns-2 c =
+    let s = c .before .before .before .settle in
     let is = c .after .ensures ∙ ap (λ o. ended (s .result) (finding o)) (source-found (source (c .before .before .before .before .before .before .before .before .before .before .before .before)) (c .before .before .before .before .before .before .before .before .before .before .before .before .before .before .before .before .before .before .before .before .args .key) (c .before .before .before .before .before .before .before .before .before .before .find .ensures)) in
     settled (run (c .before .before .before .before .before .before .before)) (s .result) (s .ensures) is (λ i. omega (arith, c .before .before .before .before .before .before .before .before .before .before .before .before .before .before .before .before .before .before .before .slice-known .given i)) (λ i. omega (arith, c .before .slice-known3 .given i))
 

@@ -1,0 +1,4 @@
+pub mod ByRule
+pub mod Chains
+pub mod Differing
+pub mod Uniting

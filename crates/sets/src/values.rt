@@ -1,0 +1,79 @@
+// The value of a key that both trees have, by the rule's number.
+use block::Found;
+ghost use mathlib.Core.Path.{_≡_};
+ghost use Rattle.model.specs.Rules.{mergedLeft, mergedRight, kept, mergeBy, diffBy};
+ghost use Rattle.block.specs.Outcome.{answer};
+
+// Union rules: 0 left, 1 right, 2 smaller, 3 larger, 4 sum held at 4,294,967,295, which is asked before the sum could exceed it.
+fn merge(rule: u32, x: u32, y: u32) -> u32
+    ensures { λ r. ⌜ r ≡ mergeBy rule x y ⌝ }
+{
+    if rule == 0 {
+        return x;
+    }
+    if rule == 1 {
+        return y;
+    }
+    if rule == 2 {
+        return if x < y { x } else { y };
+    }
+    if rule == 3 {
+        return if x < y { y } else { x };
+    }
+    if 4294967295 - x < y {
+        return 4294967295;
+    }
+    x + y
+}
+
+// The value of a left key, merged where the right has the key.
+pub fn merge_left(rule: u32, x: u32, right: Found) -> u32
+    ensures { λ r. ⌜ r ≡ mergedLeft (mergeBy rule) x (answer right) ⌝ }
+{
+    match right {
+        Found::Value(y) => merge(rule, x, y),
+        Found::Absent => x,
+    }
+}
+
+// The value of a right key, merged as (left value, right value) where the left has the key.
+pub fn merge_right(rule: u32, left: Found, y: u32) -> u32
+    ensures { λ r. ⌜ r ≡ mergedRight (mergeBy rule) (answer left) y ⌝ }
+{
+    match left {
+        Found::Value(x) => merge(rule, x, y),
+        Found::Absent => y,
+    }
+}
+
+// Difference rules for a common key: 0 drop; 1 drop if equal, else left; 2 left; 3 left minus right if larger, else drop.
+fn diff(rule: u32, x: u32, y: u32) -> Found
+    ensures { λ r. ⌜ answer r ≡ diffBy rule x y ⌝ }
+{
+    if rule == 0 {
+        return Found::Absent;
+    }
+    if rule == 1 {
+        if x == y {
+            return Found::Absent;
+        }
+        return Found::Value(x);
+    }
+    if rule == 2 {
+        return Found::Value(x);
+    }
+    if y < x {
+        return Found::Value(x - y);
+    }
+    Found::Absent
+}
+
+// The value of a left key, or that it goes: the rule decides where the right has the key.
+pub fn kept(rule: u32, x: u32, right: Found) -> Found
+    ensures { λ r. ⌜ answer r ≡ kept (diffBy rule) x (answer right) ⌝ }
+{
+    match right {
+        Found::Value(y) => diff(rule, x, y),
+        Found::Absent => Found::Value(x),
+    }
+}

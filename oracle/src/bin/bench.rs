@@ -1,0 +1,184 @@
+//! The exported call beside the original's own call and the same audit in Rust, in one run. Usage: bench [rounds]
+
+use oracle::call::{Call, Reply};
+use oracle::exports;
+use oracle::fast;
+use oracle::frame::{Frame, INBOX};
+use oracle::original::{self, Map};
+use oracle::passes;
+use oracle::plain;
+use oracle::random::Random;
+use oracle::table::Table;
+use oracle::wbtree::map::look;
+use std::hint::black_box;
+use std::time::Instant;
+
+/// A call, and the block that it starts from.
+struct Scene {
+    name: &'static str,
+    start: Vec<u32>,
+    inbox: Vec<u32>,
+    call: Call,
+}
+
+/// Keys of a version in the order in which they are put.
+fn keys(count: u32, step: u32) -> Vec<u32> {
+    let mut keys: Vec<u32> = (0..count).map(|i| step * i).collect();
+    Random::new(count as u64).shuffle(&mut keys);
+    keys
+}
+
+fn edited(table: &mut Table, call: Call) {
+    let reply = plain::answer(table, &mut [0; INBOX], &call);
+    assert_eq!(reply.number, 0, "{call:?}");
+}
+
+fn put(table: &mut Table, version: u32, keys: &[u32]) {
+    for &key in keys {
+        edited(table, Call::Insert { dest: version, source: version, key, value: key });
+    }
+}
+
+/// Version 0 with so many entries, at keys 0, 2, 4 and on.
+fn entries(n: usize, count: u32) -> Table {
+    let mut table = Table::fresh(n);
+    put(&mut table, 0, &keys(count, 2));
+    table
+}
+
+/// Version 1 is version 0 with ten neighbouring values changed: at N = 2,048 there is no room for changes far apart.
+fn changed(n: usize) -> Table {
+    let mut table = entries(n, 2000);
+    edited(&mut table, Call::Copy { dest: 1, source: 0 });
+    for key in (1000..1020).step_by(2) {
+        edited(&mut table, Call::Insert { dest: 1, source: 1, key, value: 1 });
+    }
+    table
+}
+
+/// Version 1 with keys 0, step, 2 step and on, of which the even ones are also in version 0.
+fn beside(n: usize, count: u32, other: u32, step: u32) -> Table {
+    let mut table = entries(n, count);
+    put(&mut table, 1, &keys(other, step));
+    table
+}
+
+fn scenes(n: usize) -> Vec<Scene> {
+    let scene = |name, table: &Table, call| {
+        let mut inbox = vec![0; INBOX];
+        (inbox[0], inbox[1]) = (7, 100);
+        Scene { name, start: table.words(), inbox, call }
+    };
+    let (few, many, pair) = (entries(n, 100), entries(n, 2000), changed(n));
+    let two = beside(n, 100, 100, 3);
+    let union = Call::Union { dest: 2, left: 0, right: 1, rule: 4 };
+    let difference = |cancel| Call::Difference { dest: 2, left: 0, right: 1, rule: 1, cancel };
+    let insert = Call::Insert { dest: 0, source: 0, key: 77, value: 1 };
+    let remove = Call::Remove { dest: 0, source: 0, key: 76 };
+    let lookup = Call::Lookup { version: 0, key: 76 };
+    let copy = Call::Copy { dest: 1, source: 0 };
+    let line = Frame { batch: 7, index: 5, count: 100, kind: 1, key: 77, value: 1 }.line();
+    let mut scenes = vec![
+        scene("size: the audit and little else", &many, Call::Size { version: 0 }),
+        scene("lookup in 100", &few, lookup.clone()),
+        scene("lookup in 2,000", &many, lookup),
+        scene("insert into 100", &few, insert.clone()),
+        scene("insert into 2,000", &many, insert),
+        scene("remove from 100", &few, remove.clone()),
+        scene("remove from 2,000", &many, remove),
+        scene("copy of 100", &few, copy.clone()),
+        scene("copy of 2,000", &many, copy),
+        scene("union of 100 and 100", &two, union.clone()),
+        scene("difference of 100 and 100", &two, difference(0)),
+        scene("difference of 2,000 and 2,000", &pair, difference(0)),
+        scene("the same with cancelling", &pair, difference(1)),
+        scene("listing of 2,000", &many, Call::List { left: 0, right: 15, start: 0, room: 8000 }),
+        scene("listing of 2,000 against 2,000", &pair, Call::List { left: 0, right: 1, start: 0, room: 8000 }),
+        scene("delta of 10 changes in 2,000", &pair, Call::Frames { from: 0, to: 1, batch: 7, start: 0, room: 350 }),
+        scene("frames of 2,000 puts", &many, Call::Frames { from: 15, to: 0, batch: 7, start: 0, room: 70_000 }),
+        scene("receive, 2,000 entries", &many, Call::Receive { version: 0, line }),
+    ];
+    // A union makes a node or more for each entry that both have, so beside 2,000 entries there is room for few.
+    if n == 4096 {
+        scenes.push(scene("union of 2,000 and 100", &beside(n, 2000, 100, 31), union.clone()));
+        scenes.push(scene("difference of 2,000 and 100", &beside(n, 2000, 100, 31), difference(0)));
+        scenes.push(scene("union of 1,500 and its copy", &copied(n, 1500), union));
+    } else {
+        scenes.push(scene("union of 2,000 and 2", &beside(n, 2000, 2, 3), union.clone()));
+        scenes.push(scene("union of 700 and its copy", &copied(n, 700), union));
+    }
+    scenes
+}
+
+fn copied(n: usize, count: u32) -> Table {
+    let mut table = entries(n, count);
+    edited(&mut table, Call::Copy { dest: 1, source: 0 });
+    table
+}
+
+/// The original's own call; lines and inbox, which it does not have, in plain fast Rust.
+fn native(maps: &mut [Map], inbox: &mut [u32], call: &Call, reply: &mut Reply) {
+    match *call {
+        Call::Size { version } => reply.fields[0] = maps[version as usize].len() as u32,
+        Call::Lookup { version, key } => reply.fields[1] = *maps[version as usize].get(&key).unwrap_or(&0),
+        Call::List { left, right, .. } => {
+            let rows = maps[left as usize].difference_entries(&maps[right as usize]);
+            for (place, (key, value, other)) in reply.words.chunks_exact_mut(4).zip(rows) {
+                place.copy_from_slice(&[key, *value, other.is_some() as u32, *other.unwrap_or(&0)]);
+            }
+        }
+        Call::Frames { from, to, batch, .. } => {
+            reply.fields[1] = fast::frames(&maps[from as usize], &maps[to as usize], batch, &mut reply.bytes);
+        }
+        Call::Receive { version, ref line } => reply.fields[1] = fast::receive(maps, inbox, version, line).unwrap(),
+        _ => reply.fields[1] = original::edit(maps, call).unwrap_or(0),
+    }
+}
+
+/// Both sides do the same before they are timed.
+fn agree(scene: &Scene) {
+    let (mut block, mut inbox) = (scene.start.clone(), scene.inbox.clone());
+    let (mut told, mut own) = (scene.call.blank(), scene.call.blank());
+    exports::run_into(&mut block, &mut inbox, &scene.call, &mut told);
+    assert_eq!(told.number, 0, "{}", scene.name);
+    let (mut maps, mut own_inbox) = (look::plant(&scene.start), scene.inbox.clone());
+    native(&mut maps, &mut own_inbox, &scene.call, &mut own);
+    assert_eq!((told.words, told.bytes, inbox), (own.words, own.bytes, own_inbox), "{}", scene.name);
+    original::alike(&block, &maps).unwrap();
+}
+
+fn nanoseconds(work: impl FnOnce()) -> u128 {
+    let start = Instant::now();
+    work();
+    start.elapsed().as_nanos()
+}
+
+/// The best of many rounds. The two take turns, so that neither has the quieter machine.
+fn best(scene: &Scene, rounds: usize) -> (u128, u128) {
+    let (mut exported, mut own) = (u128::MAX, u128::MAX);
+    let mut reply = scene.call.blank();
+    for _ in 0..rounds {
+        let (mut block, mut inbox) = (scene.start.clone(), scene.inbox.clone());
+        exported = exported.min(nanoseconds(|| exports::run_into(black_box(&mut block), &mut inbox, &scene.call, &mut reply)));
+        let (block, mut inbox, mut maps) = (scene.start.clone(), scene.inbox.clone(), look::plant(&scene.start));
+        own = own.min(nanoseconds(|| {
+            assert_eq!(passes::check(black_box(&block)), 0);
+            native(black_box(&mut maps), &mut inbox, &scene.call, &mut reply);
+        }));
+        black_box(&reply);
+    }
+    (exported, own)
+}
+
+fn main() {
+    let rounds = std::env::args().nth(1).map_or(500, |text| text.parse().expect("rounds is a number"));
+    println!("best of {rounds}; ratio = exported call / (the original's own call + the same audit in Rust)");
+    for n in [2048, 4096] {
+        println!("\n{:42} {:>6} {:>13} {:>13}", format!("N = {n}"), "ratio", "exported, ns", "Rust, ns");
+        for scene in scenes(n) {
+            agree(&scene);
+            let (exported, own) = best(&scene, rounds);
+            println!("{:42} {:6.2} {exported:13} {own:13}", scene.name, exported as f64 / own as f64);
+        }
+    }
+}

@@ -1,0 +1,147 @@
+//! The exported calls. A slice crosses as pointer and length, a field as a pointer.
+
+use crate::call::{Call, Reply};
+use crate::frame::Frame;
+use std::sync::atomic::{AtomicU64, Ordering};
+
+#[link(name = "switch", kind = "static")]
+extern "C" {
+    fn ksk_fresh(block: *mut u32, words: usize, n: u32) -> u32;
+    fn ksk_lookup(block: *const u32, words: usize, version: u32, key: u32, found: *mut u32, value: *mut u32) -> u32;
+    fn ksk_size(block: *const u32, words: usize, version: u32, size: *mut u32) -> u32;
+    fn ksk_insert(
+        block: *mut u32,
+        words: usize,
+        dest: u32,
+        source: u32,
+        key: u32,
+        value: u32,
+        had: *mut u32,
+        old: *mut u32,
+    ) -> u32;
+    fn ksk_remove(block: *mut u32, words: usize, dest: u32, source: u32, key: u32, had: *mut u32, old: *mut u32) -> u32;
+    fn ksk_copy(block: *mut u32, words: usize, dest: u32, source: u32) -> u32;
+    fn ksk_clear(block: *mut u32, words: usize, version: u32) -> u32;
+    fn ksk_union(block: *mut u32, words: usize, dest: u32, left: u32, right: u32, rule: u32) -> u32;
+    fn ksk_difference(block: *mut u32, words: usize, dest: u32, left: u32, right: u32, rule: u32, cancel: u32) -> u32;
+    fn ksk_list(
+        block: *const u32,
+        words: usize,
+        left: u32,
+        right: u32,
+        start: u32,
+        out: *mut u32,
+        room: usize,
+        written: *mut u32,
+        total: *mut u32,
+    ) -> u32;
+    fn ksk_frames(
+        block: *const u32,
+        words: usize,
+        from: u32,
+        to: u32,
+        batch: u32,
+        start: u32,
+        out: *mut u8,
+        room: usize,
+        written: *mut u32,
+        total: *mut u32,
+    ) -> u32;
+    fn ksk_parse(
+        line: *const u8,
+        bytes: usize,
+        batch: *mut u32,
+        index: *mut u32,
+        count: *mut u32,
+        kind: *mut u32,
+        key: *mut u32,
+        value: *mut u32,
+    ) -> u32;
+    fn ksk_begin(inbox: *mut u32, words: usize, batch: u32) -> u32;
+    fn ksk_receive(
+        block: *mut u32,
+        words: usize,
+        inbox: *mut u32,
+        inbox_words: usize,
+        version: u32,
+        line: *const u8,
+        bytes: usize,
+        repeat: *mut u32,
+        missing: *mut u32,
+    ) -> u32;
+    fn ksk_missing(inbox: *const u32, words: usize, missing: *mut u32) -> u32;
+}
+
+pub fn fresh(block: &mut [u32], n: u32) -> u32 {
+    unsafe { ksk_fresh(block.as_mut_ptr(), block.len(), n) }
+}
+
+pub fn begin(inbox: &mut [u32], batch: u32) -> u32 {
+    unsafe { ksk_begin(inbox.as_mut_ptr(), inbox.len(), batch) }
+}
+
+/// What fields hold before a call: a refusal must set them to zero, not leave them.
+const STALE: u32 = 0xdead_beef;
+
+pub fn missing(inbox: &[u32]) -> (u32, u32) {
+    let mut missing = STALE;
+    let number = unsafe { ksk_missing(inbox.as_ptr(), inbox.len(), &mut missing) };
+    (number, missing)
+}
+
+pub fn parse(line: &[u8]) -> (u32, Frame) {
+    let mut f = Frame { batch: STALE, index: STALE, count: STALE, kind: STALE, key: STALE, value: STALE };
+    let number = unsafe {
+        ksk_parse(line.as_ptr(), line.len(), &mut f.batch, &mut f.index, &mut f.count, &mut f.kind, &mut f.key, &mut f.value)
+    };
+    (number, f)
+}
+
+/// How often each number was answered: a comparison that never meets one compares less than it says.
+pub static ANSWERS: [AtomicU64; 10] = [const { AtomicU64::new(0) }; 10];
+
+/// Runs a call. Fields that an export does not have stay zero.
+pub fn run(block: &mut [u32], inbox: &mut [u32], call: &Call) -> Reply {
+    let mut reply = call.blank();
+    run_into(block, inbox, call, &mut reply);
+    if let Some(times) = ANSWERS.get(reply.number as usize) {
+        times.fetch_add(1, Ordering::Relaxed);
+    }
+    reply
+}
+
+/// The same with a reply at hand, so that no output has to be made: this is what is timed.
+pub fn run_into(block: &mut [u32], inbox: &mut [u32], call: &Call, reply: &mut Reply) {
+    let (b, words) = (block.as_mut_ptr(), block.len());
+    let [x, y] = &mut reply.fields;
+    reply.number = unsafe {
+        match *call {
+            Call::Copy { dest, source } => ksk_copy(b, words, dest, source),
+            Call::Clear { version } => ksk_clear(b, words, version),
+            Call::Union { dest, left, right, rule } => ksk_union(b, words, dest, left, right, rule),
+            Call::Difference { dest, left, right, rule, cancel } => ksk_difference(b, words, dest, left, right, rule, cancel),
+            Call::Size { version } => {
+                *x = STALE;
+                ksk_size(b, words, version, x)
+            }
+            _ => {
+                (*x, *y) = (STALE, STALE);
+                match *call {
+                    Call::Lookup { version, key } => ksk_lookup(b, words, version, key, x, y),
+                    Call::Insert { dest, source, key, value } => ksk_insert(b, words, dest, source, key, value, x, y),
+                    Call::Remove { dest, source, key } => ksk_remove(b, words, dest, source, key, x, y),
+                    Call::List { left, right, start, room } => {
+                        ksk_list(b, words, left, right, start, reply.words.as_mut_ptr(), room, x, y)
+                    }
+                    Call::Frames { from, to, batch, start, room } => {
+                        ksk_frames(b, words, from, to, batch, start, reply.bytes.as_mut_ptr(), room, x, y)
+                    }
+                    Call::Receive { version, ref line } => {
+                        ksk_receive(b, words, inbox.as_mut_ptr(), inbox.len(), version, line.as_ptr(), line.len(), x, y)
+                    }
+                    _ => unreachable!("answered above"),
+                }
+            }
+        }
+    };
+}

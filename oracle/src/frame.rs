@@ -1,0 +1,84 @@
+//! Frame lines and inboxes, from document 01.
+
+use crate::walk::Change;
+
+pub const LINE: usize = 35;
+
+#[derive(Clone, Copy, PartialEq, Eq, Debug)]
+pub struct Frame {
+    pub batch: u32,
+    pub index: u32,
+    pub count: u32,
+    pub kind: u32,
+    pub key: u32,
+    pub value: u32,
+}
+
+impl Frame {
+    pub fn line(&self) -> Vec<u8> {
+        let Frame { batch, index, count, kind, key, value } = self;
+        format!("{batch:08x}{index:04x}{count:04x}{kind:02x}{key:08x}{value:08x}\n").into_bytes()
+    }
+
+    pub fn legal(&self) -> bool {
+        let placed = (1..=4096).contains(&self.count) && self.index < self.count;
+        match self.kind {
+            0 => placed && self.count == 1 && self.key == 0 && self.value == 0,
+            1 => placed,
+            2 => placed && self.value == 0,
+            _ => false,
+        }
+    }
+
+    pub fn parse(line: &[u8]) -> Option<Frame> {
+        let digits = line.strip_suffix(b"\n")?;
+        let lower = digits.iter().all(|c| c.is_ascii_digit() || (b'a'..=b'f').contains(c));
+        if digits.len() != 34 || !lower {
+            return None;
+        }
+        let text = std::str::from_utf8(digits).unwrap();
+        let field = |from: usize, to: usize| u32::from_str_radix(&text[from..to], 16).unwrap();
+        let frame = Frame {
+            batch: field(0, 8),
+            index: field(8, 12),
+            count: field(12, 16),
+            kind: field(16, 18),
+            key: field(18, 26),
+            value: field(26, 34),
+        };
+        frame.legal().then_some(frame)
+    }
+}
+
+/// The frames of a delta; an empty one is the single frame "nothing changed".
+pub fn frames(batch: u32, delta: &[Change]) -> Vec<Frame> {
+    if delta.is_empty() {
+        return vec![Frame { batch, index: 0, count: 1, kind: 0, key: 0, value: 0 }];
+    }
+    let count = delta.len() as u32;
+    let frame = |(index, change): (usize, &Change)| {
+        let (kind, key, value) = match *change {
+            Change::Put(key, value) => (1, key, value),
+            Change::Remove(key) => (2, key, 0),
+        };
+        Frame { batch, index: index as u32, count, kind, key, value }
+    };
+    delta.iter().enumerate().map(frame).collect()
+}
+
+pub const INBOX: usize = 130;
+
+pub fn heard(inbox: &[u32], index: u32) -> bool {
+    inbox[2 + index as usize / 32] >> (index % 32) & 1 == 1
+}
+
+pub fn hear(inbox: &mut [u32], index: u32) {
+    inbox[2 + index as usize / 32] |= 1 << (index % 32);
+}
+
+pub fn missing(inbox: &[u32]) -> u32 {
+    match inbox[1] {
+        0 => u32::MAX,
+        count => count - (0..count).filter(|&index| heard(inbox, index)).count() as u32,
+    }
+}

@@ -1,0 +1,138 @@
+//! What document 01 says of each call: the reply, the trees and the inbox afterwards.
+
+use crate::call::{Call, Reply};
+use crate::frame::{self, Frame, LINE};
+use crate::rules::{self, Supply, Tree};
+use crate::table::Table;
+use crate::walk::{self, TooDeep};
+
+pub const VERSION: u32 = 3;
+pub const RULE: u32 = 4;
+pub const NO_ROOM: u32 = 5;
+pub const TOO_DEEP: u32 = 6;
+pub const FRAME: u32 = 7;
+pub const BATCH: u32 = 8;
+pub const COUNT: u32 = 9;
+
+impl From<TooDeep> for u32 {
+    fn from(_: TooDeep) -> u32 {
+        TOO_DEEP
+    }
+}
+
+/// Answers a call on sound words. A refusal leaves trees and inbox alone.
+pub fn answer(table: &mut Table, inbox: &mut [u32], call: &Call) -> Reply {
+    let mut reply = call.blank();
+    match run(table, inbox, call, &mut reply) {
+        Ok(()) => reply,
+        Err(number) => Reply { number, ..call.blank() },
+    }
+}
+
+fn run(table: &mut Table, inbox: &mut [u32], call: &Call, reply: &mut Reply) -> Result<(), u32> {
+    if call.versions().iter().any(|&version| version > 15) {
+        return Err(VERSION);
+    }
+    if !call.rule_known() {
+        return Err(RULE);
+    }
+    let tree = |version: u32| table.versions[version as usize].clone();
+    match *call {
+        Call::Lookup { version, key } => reply.fields = found(rules::lookup(&tree(version), key)),
+        Call::Size { version } => reply.fields = [rules::size(&tree(version)) as u32, 0],
+        Call::List { left, right, start, room } => {
+            let rows = walk::rows(&tree(left), &tree(right))?;
+            let written = written(rows.len(), start, room / 4);
+            for (place, row) in reply.words.chunks_exact_mut(4).zip(&rows[written.clone()]) {
+                place.copy_from_slice(row);
+            }
+            reply.fields = [4 * written.len() as u32, rows.len() as u32];
+        }
+        Call::Frames { from, to, batch, start, room } => {
+            let frames = frame::frames(batch, &walk::delta(&tree(from), &tree(to))?);
+            let written = written(frames.len(), start, room / LINE);
+            for (place, frame) in reply.bytes.chunks_exact_mut(LINE).zip(&frames[written.clone()]) {
+                place.copy_from_slice(&frame.line());
+            }
+            reply.fields = [(LINE * written.len()) as u32, frames.len() as u32];
+        }
+        Call::Receive { version, ref line } => reply.fields = receive(table, inbox, version, line)?,
+        _ => reply.fields = edit(table, call)?,
+    }
+    Ok(())
+}
+
+fn found(value: Option<u32>) -> [u32; 2] {
+    [value.is_some() as u32, value.unwrap_or(0)]
+}
+
+/// Which of `total` items go out.
+fn written(total: usize, start: u32, room: usize) -> std::ops::Range<usize> {
+    let start = total.min(start as usize);
+    start..start + room.min(total - start)
+}
+
+/// Runs the rule of an edit and makes its tree the destination's.
+fn edit(table: &mut Table, call: &Call) -> Result<[u32; 2], u32> {
+    let mut supply = Supply::new(table.free());
+    let (dest, tree, fields) = ruled(table, &mut supply, call);
+    if supply.short() {
+        return Err(NO_ROOM);
+    }
+    table.versions[dest as usize] = tree;
+    Ok(fields)
+}
+
+fn ruled(table: &Table, supply: &mut Supply, call: &Call) -> (u32, Tree, [u32; 2]) {
+    let tree = |version: u32| &table.versions[version as usize];
+    match *call {
+        Call::Insert { dest, source, key, value } => {
+            (dest, rules::insert(supply, tree(source), key, value), found(rules::lookup(tree(source), key)))
+        }
+        Call::Remove { dest, source, key } => {
+            (dest, rules::remove(supply, tree(source), key), found(rules::lookup(tree(source), key)))
+        }
+        Call::Copy { dest, source } => (dest, tree(source).clone(), [0; 2]),
+        Call::Clear { version } => (version, None, [0; 2]),
+        Call::Union { dest, left, right, rule } => (dest, rules::union(supply, tree(left), tree(right), rule), [0; 2]),
+        Call::Difference { dest, left, right, rule, cancel } => {
+            (dest, rules::difference(supply, tree(left), tree(right), rule, cancel == 1), [0; 2])
+        }
+        _ => unreachable!("not an edit"),
+    }
+}
+
+/// The nodes that an edit makes, unused ones counted.
+pub fn makes(table: &Table, call: &Call) -> usize {
+    let mut supply = Supply::new(table.free());
+    ruled(table, &mut supply, call);
+    supply.made()
+}
+
+/// The edit that a frame asks for in a version.
+pub fn frame_edit(frame: &Frame, version: u32) -> Option<Call> {
+    match frame.kind {
+        1 => Some(Call::Insert { dest: version, source: version, key: frame.key, value: frame.value }),
+        2 => Some(Call::Remove { dest: version, source: version, key: frame.key }),
+        _ => None,
+    }
+}
+
+fn receive(table: &mut Table, inbox: &mut [u32], version: u32, line: &[u8]) -> Result<[u32; 2], u32> {
+    let frame = Frame::parse(line).ok_or(FRAME)?;
+    if frame.batch != inbox[0] {
+        return Err(BATCH);
+    }
+    if inbox[1] != 0 && inbox[1] != frame.count {
+        return Err(COUNT);
+    }
+    let repeat = frame::heard(inbox, frame.index);
+    if !repeat {
+        if let Some(call) = frame_edit(&frame, version) {
+            edit(table, &call)?;
+        }
+        inbox[1] = frame.count;
+        frame::hear(inbox, frame.index);
+    }
+    Ok([repeat as u32, frame::missing(inbox)])
+}
