@@ -1,6 +1,6 @@
 -- Each rule's outcome from the roots that the code holds: insert and remove are told by the lookup whether the key is there,
 -- and the fuel of union is enough.
-use mathlib.Core.Path.{_≡_, refl, sym, subst}
+use mathlib.Core.Path.{_≡_, sym, subst}
 use Prim.Native.Nat.{ℕ, suc, _+_, _<_}
 use mathlib.Core.Bool.{Bool, true, false, _&&_, not, true≢false}
 use mathlib.Core.List.{List}
@@ -8,7 +8,7 @@ use lib.Dec.{eqb, leb}
 use borrow.Author.Tests.{eq-eqb}
 use native.Mathlib.Omega.{arith}
 use Rattle.model.specs.Tree.{Tree, leaf, size, lookup, Ordered}
-use Rattle.model.specs.Supply.{Make, done}
+use Rattle.model.specs.Supply.{done}
 use Rattle.model.specs.Rules.{insertBy, insert, removePresent, remove, union, difference, diffBy}
 use Rattle.model.specs.Heap.{Named, load, tree, version, supply}
 use Rattle.model.specs.Block.{heap, SoundBlock}
@@ -25,7 +25,7 @@ use Rattle.block.proofs.Outcomes.{out-done}
 use Rattle.tree.specs.Remade.{remade}
 use Rattle.sets.specs.United.{United}
 use Rattle.table.specs.Answers.{isAbsent}
-use Rattle.table.proofs.Settling.{Source, source-named, source-found}
+use Rattle.table.proofs.Settling.{Source, source-named}
 
 -- a new key uses balanced makes, an equal key plain ones
 insert-told : (f : Found) (t : Tree) (k v : ℕ) → answer f ≡ lookup t k → insertBy (remade (isAbsent f)) t k v ≡ insert t k v

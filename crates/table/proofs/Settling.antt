@@ -73,7 +73,6 @@ pub record Begun (b : List ℕ) (e : Edit) : Type 0 where
   pub sound : SoundBlock b
   pub versions : Versions (e .versions)
   pub legal : e .legal ≡ true
-  pub known : e .dst < 16
 
 -- and whose rule has run, from b to c, making nodes from number `low` on
 pub record Run (b c : List ℕ) (low : ℕ) (made : Made) (e : Edit) : Type 0 where
@@ -83,8 +82,9 @@ pub record Run (b c : List ℕ) (low : ℕ) (made : Made) (e : Edit) : Type 0 wh
   pub ordered : Ordered (e .rule (supply (heap b)) .0)
 
 module _ {b c : List ℕ} {low : ℕ} {made : Made} {e : Edit} (R : Run b c low made e) where
-  pub settle-asks : Running c × (e .dst < 16) × Stands (heap c) made × (1 ≤ low) × HeldBelow (heap c) low
-  settle-asks = (R .out .came .running, R .begun .known, R .out .named, R .low-is .0, held (R .begun .sound) (R .low-is .1) (R .out))
+  -- what the end asks of the block and of what was made
+  pub settle-asks : Running c × Stands (heap c) made × (1 ≤ low) × HeldBelow (heap c) low
+  settle-asks = (R .out .came .running, R .out .named, R .low-is .0, held (R .begun .sound) (R .low-is .1) (R .out))
 
   -- the end of every edit
   pub settled : {after : List ℕ} {a : Answer} (n : ℕ) → Settled c after (e .dst) made n → a ≡ ended n (e .answer) → Words b → Words after → Edits b after e a

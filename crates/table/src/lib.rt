@@ -1,6 +1,6 @@
 // The public calls: checks in document 01's order, then the reading or the rule, then the end of the call.
 pub mod answers;
-mod checks;
+pub mod checks;
 pub mod edits;
 pub mod reads;
 

@@ -18,7 +18,7 @@ run c =
     let a = entry c .args in
     let p = entry c .pre in
     record {
-      begun = record { sound = p .0; versions = one-known (p .1); legal = refl; known = p .1 };
+      begun = record { sound = p .0; versions = one-known (p .1); legal = refl };
       low-is = c .before .before .makes-from .ensures;
       out = c .apply .ensures;
       ordered = rule-ordered (fieldsOf (a .f)) _ _ (version-ordered (p .0 .sound) (a .version) (p .1));
@@ -31,7 +31,10 @@ apply-requires : tie.Need-apply-requires
 apply-requires c κs = search needs
 
 settle-requires : tie.Need-settle-requires
-settle-requires c κs = settle-asks (run (c .before .before .before))
+settle-requires c κs =
+    let made = c .before .before .before in
+    let R = settle-asks (run made) in
+    (R .0, entry made .pre .1, R .1, R .2, R .3)
 
 same-length : tie.Need-same-length
 same-length c = search needs

@@ -22,7 +22,7 @@ unfolding Ordered
 run c =
     let A = admitted (c .before .before) in
     record {
-      begun = record { sound = A .sound; versions = one-known (A .first); legal = refl; known = A .first };
+      begun = record { sound = A .sound; versions = one-known (A .first); legal = refl };
       low-is = c .makes-from .ensures;
       out = cleared (A .sound);
       ordered = tt;
@@ -44,7 +44,10 @@ makes-from-requires : tie.Need-makes-from-requires
 makes-from-requires c κs = admitted (c .before) .sound .shaped
 
 settle-requires : tie.Need-settle-requires
-settle-requires c κs = settle-asks (run (c .before))
+settle-requires c κs =
+    let R = settle-asks (run (c .before)) in
+    let A = admitted (c .before .before .before) in
+    (R .0, search needs, R .1, R .2, R .3)
 
 plain-requires-2 : tie.Need-plain-requires-2
 plain-requires-2 c κs = search needs

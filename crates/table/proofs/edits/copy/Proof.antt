@@ -24,7 +24,7 @@ run : (c : tie.After-root) → Run (c .before .before .before .before .before .b
 run c =
     let A = admitted (c .before .before .before .before) in
     record {
-      begun = record { sound = A .sound; versions = two-known (A .first) (A .second); legal = refl; known = A .first };
+      begun = record { sound = A .sound; versions = two-known (A .first) (A .second); legal = refl };
       low-is = c .before .before .makes-from .ensures;
       out = copied (source c);
       ordered = version-ordered (A .sound .sound) (c .before .before .before .before .before .before .before .before .args .src) (A .second);
@@ -49,7 +49,10 @@ root-requires : tie.Need-root-requires
 root-requires c κs = let A = admitted (c .before .before .before) in (A .sound .shaped, A .second)
 
 settle-requires : tie.Need-settle-requires
-settle-requires c κs = settle-asks (run (c .before))
+settle-requires c κs =
+    let R = settle-asks (run (c .before)) in
+    let A = admitted (c .before .before .before .before .before) in
+    (R .0, search needs, R .1, R .2, R .3)
 
 plain-requires-2 : tie.Need-plain-requires-2
 plain-requires-2 c κs = search needs

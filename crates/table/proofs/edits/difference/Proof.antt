@@ -27,7 +27,7 @@ run c =
     let a = c .before .before .before .before .before .before .before .before .before .before .before .before .before .before .args in
     let legal = rule-known (c .before .before .before .before .before .before .before .before .before .difference-rule .result) (c .before .before .before .before .before .before .before .before .before .difference-rule .ensures) (c .before .before .before .before .before .before .before .before .if2 .left) in
     record {
-      begun = record { sound = A .sound; versions = three-known (A .first) (A .second) (A .third); legal = legal; known = A .first };
+      begun = record { sound = A .sound; versions = three-known (A .first) (A .second) (A .third); legal = legal };
       low-is = c .before .before .before .before .before .before .makes-from .ensures;
       out = lessened (a .rule) (a .cancel) (S .0) (S .1) (c .difference .ensures);
       ordered = lessened-ordered (A .sound) (a .left) (a .right) (a .rule) (a .cancel) legal (A .second) (A .third);
@@ -72,7 +72,10 @@ difference-requires : tie.Need-difference-requires
 difference-requires c κs = let S = sources (c .before) in pair-asks (S .0) (S .1)
 
 settle-requires : tie.Need-settle-requires
-settle-requires c κs = settle-asks (run (c .before .before .before))
+settle-requires c κs =
+    let R = settle-asks (run (c .before .before .before)) in
+    let A = admitted (c .before .before .before .before .before .before .before .before .before .before .before .before .before) in
+    (R .0, search needs, R .1, R .2, R .3)
 
 plain-requires-3 : tie.Need-plain-requires-3
 plain-requires-3 c κs = search needs

@@ -27,7 +27,7 @@ run c =
     let S = source (c .before .before .before .before .before) in
     let a = c .before .before .before .before .before .before .before .before .before .before .before .before .before .args in
     record {
-      begun = record { sound = A .sound; versions = two-known (A .first) (A .second); legal = refl; known = A .first };
+      begun = record { sound = A .sound; versions = two-known (A .first) (A .second); legal = refl };
       low-is = c .before .before .before .before .before .before .before .makes-from .ensures;
       out = inserted S (c .before .before .before .find .result) (c .before .is-absent .result) (a .key) (a .value) (c .before .is-absent .ensures) (c .before .before .before .find .ensures) (c .insert .ensures);
       ordered = insert-ordered _ (a .key) (a .value) _ (version-ordered (S .sound .sound) (a .src) (S .known));
@@ -61,7 +61,10 @@ insert-requires : tie.Need-insert-requires
 insert-requires c κs = rule-asks (source (c .before .before .before .before))
 
 settle-requires : tie.Need-settle-requires
-settle-requires c κs = settle-asks (run (c .before .before .before))
+settle-requires c κs =
+    let R = settle-asks (run (c .before .before .before)) in
+    let A = admitted (c .before .before .before .before .before .before .before .before .before .before .before .before) in
+    (R .0, search needs, R .1, R .2, R .3)
 
 after-requires : tie.Need-after-requires
 after-requires c κs = search needs

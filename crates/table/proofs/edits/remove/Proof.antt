@@ -27,7 +27,7 @@ run c =
     let S = source (c .before .before .before .before) in
     let a = c .before .before .before .before .before .before .before .before .before .before .before .before .args in
     record {
-      begun = record { sound = A .sound; versions = two-known (A .first) (A .second); legal = refl; known = A .first };
+      begun = record { sound = A .sound; versions = two-known (A .first) (A .second); legal = refl };
       low-is = c .before .before .before .before .before .before .makes-from .ensures;
       out = removed S (a .key) (c .without .ensures);
       ordered = remove-ordered _ (a .key) _ (version-ordered (S .sound .sound) (a .src) (S .known));
@@ -58,7 +58,10 @@ without-requires : tie.Need-without-requires
 without-requires c κs = let R = rule-asks (source (c .before .before .before)) in (R .0, R .1, R .2, c .before .find .ensures)
 
 settle-requires : tie.Need-settle-requires
-settle-requires c κs = settle-asks (run (c .before .before .before))
+settle-requires c κs =
+    let R = settle-asks (run (c .before .before .before)) in
+    let A = admitted (c .before .before .before .before .before .before .before .before .before .before .before) in
+    (R .0, search needs, R .1, R .2, R .3)
 
 after-requires : tie.Need-after-requires
 after-requires c κs = search needs

@@ -29,7 +29,7 @@ run c =
     let a = c .before .before .before .before .before .before .before .before .before .before .before .before .before .before .args in
     let legal = rule-known (c .before .before .before .before .before .before .before .before .before .union-rule .result) (c .before .before .before .before .before .before .before .before .before .union-rule .ensures) (c .before .before .before .before .before .before .before .before .if2 .left) in
     record {
-      begun = record { sound = A .sound; versions = three-known (A .first) (A .second) (A .third); legal = legal; known = A .first };
+      begun = record { sound = A .sound; versions = three-known (A .first) (A .second) (A .third); legal = legal };
       low-is = c .before .before .before .before .before .before .makes-from .ensures;
       out = united (S .0) (S .1) (c .union .ensures);
       ordered = union-ordered _ _ _ _ (version-ordered (A .sound .sound) (a .left) (A .second)) (version-ordered (A .sound .sound) (a .right) (A .third));
@@ -74,7 +74,10 @@ union-requires : tie.Need-union-requires
 union-requires c κs = let S = sources (c .before) in pair-asks (S .0) (S .1)
 
 settle-requires : tie.Need-settle-requires
-settle-requires c κs = settle-asks (run (c .before .before .before))
+settle-requires c κs =
+    let R = settle-asks (run (c .before .before .before)) in
+    let A = admitted (c .before .before .before .before .before .before .before .before .before .before .before .before .before) in
+    (R .0, search needs, R .1, R .2, R .3)
 
 plain-requires-3 : tie.Need-plain-requires-3
 plain-requires-3 c κs = search needs

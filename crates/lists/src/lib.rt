@@ -1,0 +1,4 @@
+// The public calls that list: listing and frames, each from a start index into the caller's output.
+pub mod entries;
+pub mod lines;
+pub mod reports;

@@ -1,0 +1,30 @@
+-- Where a call gives no field but its number, or a value alone, the other fields of its answer are 0: an export that leaves them out loses nothing.
+use mathlib.Core.Path.{_≡_, ap}
+use Prim.Native.Nat.{ℕ}
+use mathlib.Core.List.{List}
+use Rattle.model.specs.Calls.{fails, passes, Answer, giving, Edit, Reads, Edits, Fresh}
+
+-- the answer with its number alone, and with its value
+abbrev pub numbered : Answer → Answer
+numbered a = record { number = a .number; found = 0; value = 0 }
+
+abbrev pub valued : Answer → Answer
+valued a = record { number = a .number; found = 0; value = a .value }
+
+pub fresh-plain : (b after : List ℕ) (n : ℕ) (a : Answer) → Fresh b after n a → Fresh b after n (numbered a)
+fresh-plain b after n a (fails p r) = fails p (ap numbered (r .0), r .1)
+fresh-plain b after n a (passes p r) = passes p (ap numbered (r .0), r .1)
+
+pub read-plain : (b vs : List ℕ) (n : ℕ) (a : Answer) → Reads b vs (giving n) a → Reads b vs (giving n) (valued a)
+read-plain b vs n a (fails p r) = fails p (ap valued r)
+read-plain b vs n a (passes p (fails q r)) = passes p (fails q (ap valued r))
+read-plain b vs n a (passes p (passes q (fails u r))) = passes p (passes q (fails u (ap valued r)))
+read-plain b vs n a (passes p (passes q (passes u r))) = passes p (passes q (passes u (ap valued r)))
+
+pub edit-plain : (b after : List ℕ) (e : Edit) (a : Answer) → e .answer ≡ giving 0 → Edits b after e a → Edits b after e (numbered a)
+edit-plain b after e a z (fails p r) = fails p (ap numbered (r .0), r .1)
+edit-plain b after e a z (passes p (fails q r)) = passes p (fails q (ap numbered (r .0), r .1))
+edit-plain b after e a z (passes p (passes q (fails u r))) = passes p (passes q (fails u (ap numbered (r .0), r .1)))
+edit-plain b after e a z (passes p (passes q (passes u (fails l r)))) = passes p (passes q (passes u (fails l (ap numbered (r .0), r .1))))
+edit-plain b after e a z (passes p (passes q (passes u (passes l (fails m r))))) = passes p (passes q (passes u (passes l (fails m (ap numbered (r .0), r .1)))))
+edit-plain b after e a z (passes p (passes q (passes u (passes l (passes m r))))) = passes p (passes q (passes u (passes l (passes m (rw z (ap numbered (rw z at (r .0))), r .1)))))
