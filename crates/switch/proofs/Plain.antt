@@ -1,7 +1,10 @@
 -- Where a call gives no field but its number, or a value alone, the other fields of its answer are 0: an export that leaves them out loses nothing.
-use mathlib.Core.Path.{_≡_, ap}
-use Prim.Native.Nat.{ℕ}
+use mathlib.Core.Path.{_≡_, refl, ap}
+use Prim.Native.Nat.{ℕ, _≤_, _<_}
 use mathlib.Core.List.{List}
+use lib.Dec.{ltb}
+use borrow.Author.Tests.{lt-ltb, le-ltb}
+use Rattle.switch.specs.Cancels.{ruleFor}
 use Rattle.model.specs.Calls.{fails, passes, Answer, giving, Edit, Reads, Edits, Fresh}
 
 -- the answer with its number alone, and with its value
@@ -28,3 +31,10 @@ edit-plain b after e a z (passes p (passes q (fails u r))) = passes p (passes q 
 edit-plain b after e a z (passes p (passes q (passes u (fails l r)))) = passes p (passes q (passes u (fails l (ap numbered (r .0), r .1))))
 edit-plain b after e a z (passes p (passes q (passes u (passes l (fails m r))))) = passes p (passes q (passes u (passes l (fails m (ap numbered (r .0), r .1)))))
 edit-plain b after e a z (passes p (passes q (passes u (passes l (passes m r))))) = passes p (passes q (passes u (passes l (passes m (rw z (ap numbered (rw z at (r .0))), r .1)))))
+
+-- cancelling by number
+pub rule-kept : (cancel rule : ℕ) → cancel < 2 → rule ≡ ruleFor cancel rule
+rule-kept cancel rule p = rw (lt-ltb cancel 2 p, ruleFor) refl
+
+pub rule-none : (cancel rule : ℕ) → 2 ≤ cancel → 4294967295 ≡ ruleFor cancel rule
+rule-none cancel rule p = rw (le-ltb cancel 2 p, ruleFor) refl

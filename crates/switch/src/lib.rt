@@ -1,5 +1,11 @@
 // What the switch's host calls: one call each, and nothing else. Each answers the number and sets its fields through the pointers.
-ghost use Rattle.model.specs.Calls.{Fresh, Lookup, Size, Edits, inserting, removing, copying, clearing, uniting};
+ghost use Rattle.model.specs.Calls.{Fresh, Lookup, Size, Edits, inserting, removing, copying, clearing, uniting, lessening, Checked};
+ghost use Rattle.model.specs.Frame.{parse};
+ghost use Rattle.model.specs.Lists.{Lists, listed, framed};
+ghost use Rattle.model.specs.Link.{Parse, Begin, Missing, Receive};
+ghost use Rattle.switch.specs.Cancels.{ruleFor};
+ghost use lib.Dec.{eqb};
+ghost use mathlib.Core.Path.{_≡_};
 
 // Writes N and zeros: sixteen empty versions.
 #[no_mangle]
@@ -99,4 +105,144 @@ pub extern "C" fn ksk_union(block: &mut [u32], dest: u32, left: u32, right: u32,
 {
     let a = table::union(block, dest, left, right, rule);
     a.number
+}
+
+// The rule, where cancel is 0 or 1; else a number that is no rule.
+fn rule_for(cancel: u32, rule: u32) -> u32
+    ensures { λ r. ⌜ r ≡ ruleFor cancel rule ⌝ }
+{
+    if cancel < 2 {
+        return rule;
+    }
+    4294967295
+}
+
+// Version dest becomes version left less version right.
+#[no_mangle]
+pub extern "C" fn ksk_difference(
+    block: &mut [u32],
+    dest: u32,
+    left: u32,
+    right: u32,
+    rule: u32,
+    cancel: u32,
+) -> u32
+    ensures { λ r. ⌜ Edits (now (block .entry)) (now (block .exit)) (lessening (now (block .entry)) dest left right (ruleFor cancel rule) (eqb cancel 1)) (record { number = r; found = 0; value = 0 }) ⌝ }
+{
+    let a = table::difference(
+        block,
+        dest,
+        left,
+        right,
+        rule_for(cancel, rule),
+        cancel == 1,
+    );
+    a.number
+}
+
+// Version left listed against version right, from index start on.
+#[no_mangle]
+pub extern "C" fn ksk_list(
+    block: &[u32],
+    left: u32,
+    right: u32,
+    start: u32,
+    out: &mut [u32],
+    written: &mut u32,
+    total: &mut u32,
+) -> u32
+    ensures { λ r. ⌜ Lists (now (block .entry)) (now (out .entry)) (now (out .exit)) start (listed (now (block .entry)) left right) (record { number = r; written = now (written .exit); total = now (total .exit) }) ⌝ }
+{
+    let a = lists::entries::list(block, left, right, start, out);
+    *written = a.written;
+    *total = a.total;
+    a.number
+}
+
+// The lines that carry version from to version to, from index start on.
+#[no_mangle]
+pub extern "C" fn ksk_frames(
+    block: &[u32],
+    from: u32,
+    to: u32,
+    batch: u32,
+    start: u32,
+    out: &mut [u8],
+    written: &mut u32,
+    total: &mut u32,
+) -> u32
+    ensures { λ r. ⌜ Lists (now (block .entry)) (now (out .entry)) (now (out .exit)) start (framed (now (block .entry)) from to batch) (record { number = r; written = now (written .exit); total = now (total .exit) }) ⌝ }
+{
+    let a = lists::lines::frames(block, from, to, batch, start, out);
+    *written = a.written;
+    *total = a.total;
+    a.number
+}
+
+// The fields of one line.
+#[no_mangle]
+pub extern "C" fn ksk_parse(
+    line: &[u8],
+    batch: &mut u32,
+    index: &mut u32,
+    count: &mut u32,
+    kind: &mut u32,
+    key: &mut u32,
+    value: &mut u32,
+) -> u32
+    ensures { λ r. ⌜ Parse (parse (now (line .entry))) r (record { batch = now (batch .exit); index = now (index .exit); count = now (count .exit); kind = now (kind .exit); key = now (key .exit); value = now (value .exit) }) ⌝ }
+{
+    let a = link::parse(line);
+    let f = a.fields;
+    *batch = f.batch;
+    *index = f.index;
+    *count = f.count;
+    *kind = f.kind;
+    *key = f.key;
+    *value = f.value;
+    a.number
+}
+
+// The inbox made ready for a batch.
+#[no_mangle]
+pub extern "C" fn ksk_begin(inbox: &mut [u32], batch: u32) -> u32
+    ensures { λ r. ⌜ Begin (now (inbox .entry)) (now (inbox .exit)) batch r ⌝ }
+{
+    inbox::begin(inbox, batch)
+}
+
+// One line heard.
+#[no_mangle]
+pub extern "C" fn ksk_receive(
+    block: &mut [u32],
+    inbox: &mut [u32],
+    version: u32,
+    line: &[u8],
+    repeat: &mut u32,
+    missing: &mut u32,
+) -> u32
+    ensures { λ r. ⌜ Receive (record { block = now (block .entry); inbox = now (inbox .entry); block′ = now (block .exit); inbox′ = now (inbox .exit); answer = record { number = r; again = now (repeat .exit); missing = now (missing .exit) } }) version (now (line .entry)) ⌝ }
+{
+    let a = link::receive(block, inbox, version, line);
+    *repeat = a.again;
+    *missing = a.missing;
+    a.number
+}
+
+// How many lines are missing.
+#[no_mangle]
+pub extern "C" fn ksk_missing(inbox: &[u32], missing: &mut u32) -> u32
+    ensures { λ r. ⌜ Missing (now (inbox .entry)) r (now (missing .exit)) ⌝ }
+{
+    let a = inbox::question(inbox);
+    *missing = a.missing;
+    a.number
+}
+
+// 0 for a sound block, else SHAPE or DAMAGED.
+#[no_mangle]
+pub extern "C" fn ksk_audit(block: &[u32]) -> u32
+    ensures { λ r. ⌜ Checked (now (block .entry)) r ⌝ }
+{
+    audit::check(block)
 }
