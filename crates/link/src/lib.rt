@@ -160,9 +160,9 @@ fn hear(b: &mut [u32], x: &mut [u32], version: u32, f: Frame) -> Heard
             missing: missing(x),
         };
     }
-    let n = edit(b, version, f);
-    if n != 0 {
-        return refused(n);
+    let number = edit(b, version, f);
+    if number != 0 {
+        return refused(number);
     }
     mark(x, f.count, f.index);
     Heard {

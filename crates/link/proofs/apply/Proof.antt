@@ -5,8 +5,11 @@ use Rattle.link.proofs.Changes.{made-nothing, made-put, made-removed}
 use Rattle.link.proofs.apply.Statement.{statement}
 use Rattle.link.proofs.apply.Tie as tie
 
-source : (c : tie.After-root) → Source (c .before .before .before .args .b .now) (c .before .before .before .args .version) (c .root .result)
-source c = record { sound = c .before .before .before .pre .0; known = c .before .before .before .pre .1; is = c .root .ensures }
+abbrev entry : tie.After-root → tie.Start
+entry c = c .before .before .before
+
+source : (c : tie.After-root) → Source (entry c .args .b .now) (entry c .args .version) (c .root .result)
+source c = record { sound = entry c .pre .0; known = entry c .pre .1; is = c .root .ensures }
 
 root-requires : tie.Need-root-requires
 root-requires c κs = search needs
@@ -30,9 +33,11 @@ same-length-2 : tie.Need-same-length-2
 same-length-2 c = search needs
 
 returns-2 : tie.Need-returns-2
-returns-2 c = let found = c .before .before .before .before .before .before .before .find in
+returns-2 c =
+    let r = c .before .before .before .before .before .before .before .before .before .before .before in
+    let found = c .before .before .before .before .before .before .before .find in
     let absent = c .before .before .before .is-absent in
-    made-put (source (c .before .before .before .before .before .before .before .before .before .before .before)) (c .before .before .before .before .before .before .before .before .before .before .before .before .before .before .args .f) (found .result) (absent .result) (c .before .before .before .before .before .if2 .taken) (absent .ensures) (found .ensures) (c .before .before .insert .ensures)
+    made-put (source r) (entry r .args .f) (found .result) (absent .result) (c .before .before .before .before .before .if2 .taken) (absent .ensures) (found .ensures) (c .before .before .insert .ensures)
 
 without-requires : tie.Need-without-requires
 without-requires c κs = let R = rule-asks (source (c .before .before .before .before .before .before .before)) in (R .0, R .1, R .2, c .before .before .before .find .ensures)
@@ -41,7 +46,9 @@ same-length-3 : tie.Need-same-length-3
 same-length-3 c = search needs
 
 returns-3 : tie.Need-returns-3
-returns-3 c = made-removed (source (c .before .before .before .before .before .before .before .before .before .before)) (c .before .before .before .before .before .before .before .before .before .before .before .before .before .args .f) (c .before .before .before .before .before .before .before .before .if1 .left) (c .before .before .before .before .if2 .left) (c .before .before .without .ensures)
+returns-3 c =
+    let r = c .before .before .before .before .before .before .before .before .before .before in
+    made-removed (source r) (entry r .args .f) (c .before .before .before .before .before .before .before .before .if1 .left) (c .before .before .before .before .if2 .left) (c .before .before .without .ensures)
 
 pub apply-spec : {M : Type 1} → statement M
 apply-spec =

@@ -10,9 +10,13 @@ use Rattle.link.proofs.Changes.{rule-ordered, changing, changed}
 use Rattle.link.proofs.edit.Statement.{statement}
 use Rattle.link.proofs.edit.Tie as tie
 
-run : (c : tie.After-apply) → Run (c .before .before .before .before .before .args .b .now) (c .apply .last .0) (c .before .before .makes-from .result) (c .apply .result) (changing (c .before .before .before .before .before .args .b .now) (c .before .before .before .before .before .args .version) (c .before .before .before .before .before .args .f))
-run c = let a = c .before .before .before .before .before .args in
-    let p = c .before .before .before .before .before .pre in
+abbrev entry : tie.After-apply → tie.Start
+entry c = c .before .before .before .before .before
+
+run : (c : tie.After-apply) → Run (entry c .args .b .now) (c .apply .last .0) (c .before .before .makes-from .result) (c .apply .result) (changing (entry c .args .b .now) (entry c .args .version) (entry c .args .f))
+run c =
+    let a = entry c .args in
+    let p = entry c .pre in
     record {
       begun = record { sound = p .0; versions = one-known (p .1); legal = refl };
       low-is = c .before .before .makes-from .ensures;
@@ -28,14 +32,17 @@ apply-requires c κs = search needs
 
 settle-requires : tie.Need-settle-requires
 settle-requires c κs =
-    let R = settle-asks (run (c .before .before .before)) in
-    (R .0, c .before .before .before .before .before .before .before .before .pre .1, R .1, R .2, R .3)
+    let made = c .before .before .before in
+    let R = settle-asks (run made) in
+    (R .0, entry made .pre .1, R .1, R .2, R .3)
 
 same-length : tie.Need-same-length
 same-length c = search needs
 
 returns : tie.Need-returns
-returns c = changed (c .before .before .before .before .before .before .before .before .before .before .before .args .f) (run (c .before .before .before .before .before .before)) (c .before .before .settle .ensures) (λ i. omega (arith, c .before .before .before .before .before .before .before .before .before .before .slice-known .given i)) (λ i. omega (arith, c .slice-known3 .given i))
+returns c =
+    let made = c .before .before .before .before .before .before in
+    changed (entry made .args .f) (run made) (c .before .before .settle .ensures) (λ i. omega (arith, made .before .before .before .before .slice-known .given i)) (λ i. omega (arith, c .slice-known3 .given i))
 
 pub edit-spec : {M : Type 1} → statement M
 edit-spec =

@@ -9,7 +9,10 @@ use Rattle.link.proofs.Lines.{markable, repeated, full, done}
 use Rattle.link.proofs.hear.Statement.{statement}
 use Rattle.link.proofs.hear.Tie as tie
 
-new : (c : tie.Else1) → heardAt (c .before .before .before .before .before .args .x .now) (c .before .before .before .before .before .args .f .index) ≡ false
+abbrev entry : tie.Else1 → tie.Start
+entry c = c .before .before .before .before .before
+
+new : (c : tie.Else1) → heardAt (entry c .args .x .now) (entry c .args .f .index) ≡ false
 new c = sym (c .before .heard .ensures) ∙ c .if1 .left
 
 heard-requires : tie.Need-heard-requires
@@ -37,13 +40,20 @@ same-length-3 : tie.Need-same-length-3
 same-length-3 c = search needs
 
 returns-2 : tie.Need-returns-2
-returns-2 c = full (c .before .before .before .before .before .before .before .before .before .before .before .pre) (new (c .before .before .before .before .before .before)) (c .before .before .before .before .edit .ensures) (c .before .if2 .taken) (c .refused .ensures)
+returns-2 c =
+    let u = c .before .before .before .before .before .before in
+    full (entry u .pre) (new u) (c .before .before .before .before .edit .ensures) (λ z. omega (arith, z, c .before .if2 .taken)) (c .refused .ensures)
 
 mark-requires : tie.Need-mark-requires
-mark-requires c κs = let F = c .before .before .before .before .before .before .before .before .before .before .before .pre in (F .inbox .long, omega (arith, F .small, F .below), new (c .before .before .before .before .before .before))
+mark-requires c κs =
+    let u = c .before .before .before .before .before .before in
+    let F = entry u .pre in
+    (F .inbox .long, omega (arith, F .small, F .below), new u)
 
 missing-requires-2 : tie.Need-missing-requires-2
-missing-requires-2 c κs = subst SoundInbox (sym (c .before .before .before .mark .ensures)) (marked-sound (markable (c .before .before .before .before .before .before .before .before .before .before .before .before .before .before .before .pre) (new (c .before .before .before .before .before .before .before .before .before .before))))
+missing-requires-2 c κs =
+    let u = c .before .before .before .before .before .before .before .before .before .before in
+    subst SoundInbox (sym (c .before .before .before .mark .ensures)) (marked-sound (markable (entry u .pre) (new u)))
 
 same-length-4 : tie.Need-same-length-4
 same-length-4 c = search needs
@@ -52,7 +62,9 @@ same-length-5 : tie.Need-same-length-5
 same-length-5 c = search needs
 
 returns-3 : tie.Need-returns-3
-returns-3 c = done (c .before .before .before .before .before .before .before .before .before .before .before .before .before .before .before .before .pre) (new (c .before .before .before .before .before .before .before .before .before .before .before)) (c .before .before .before .before .before .before .before .before .before .edit .ensures) (c .before .before .before .before .before .before .if2 .left) (c .before .before .before .before .mark .ensures) (c .missing2 .ensures)
+returns-3 c =
+    let u = c .before .before .before .before .before .before .before .before .before .before .before in
+    done (entry u .pre) (new u) (c .before .before .before .before .before .before .before .before .before .edit .ensures) (c .before .before .before .before .before .before .if2 .left) (c .before .before .before .before .mark .ensures) (c .missing2 .ensures)
 
 pub hear-spec : {M : Type 1} → statement M
 hear-spec =

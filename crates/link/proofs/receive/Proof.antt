@@ -4,20 +4,23 @@ use mathlib.Core.Path.{_≡_, ap, sym, _∙_}
 use mathlib.Core.Option.{some}
 use Rattle.model.specs.Frame as lines
 use Rattle.frame.specs.Fields.{parsed, fieldsOf}
-use Rattle.link.specs.Answers.{Fit}
 use Rattle.link.proofs.Lines.{Checked, ready-checked, not-ready, malformed, foreign, taken, fit}
 use Rattle.link.proofs.receive.Statement.{statement}
 use Rattle.link.proofs.receive.Tie as tie
 
-checked : (c : tie.Else1) → Checked (c .before .before .before .before .before .before .before .args .b .now) (c .before .before .before .before .before .before .before .args .x .now) (c .before .before .before .before .before .before .before .args .version)
+-- from the place where the frame is known to the one where the checks have passed, and from there to the start
+abbrev entry : tie.Else1 → tie.Start
+entry c = c .before .before .before .before .before .before .before
+
+abbrev to-checks : tie.After-f → tie.Else1
+to-checks c = c .before .before .before
+
+checked : (c : tie.Else1) → Checked (entry c .args .b .now) (entry c .args .x .now) (entry c .args .version)
 checked c = ready-checked (c .before .ready .ensures) (c .if1 .left)
 
 -- what the line says
-frame : (c : tie.After-f) → some (fieldsOf (c .f .given .0 .0)) ≡ lines.parse (c .before .before .before .before .before .before .before .before .before .before .args .line .now)
+frame : (c : tie.After-f) → some (fieldsOf (c .f .given .0 .0)) ≡ lines.parse (entry (to-checks c) .args .line .now)
 frame c = ap parsed (sym (c .f .given .1)) ∙ c .before .before .parse .ensures
-
-fits : (c : tie.Else2) → Fit (c .before .before .before .before .before .before .before .before .before .before .before .before .before .before .args .b .now) (c .before .before .before .before .before .before .before .before .before .before .before .before .before .before .args .x .now) (c .before .before .before .before .before .before .before .before .before .before .before .before .before .before .args .version) (c .before .before .before .before .f .given .0 .0)
-fits c = fit (checked (c .before .before .before .before .before .before .before)) _ _ (frame (c .before .before .before .before)) (c .before .belongs .ensures) (c .if2 .left)
 
 ready-requires : tie.Need-ready-requires
 ready-requires c κs = search needs
@@ -53,7 +56,9 @@ same-length-4 : tie.Need-same-length-4
 same-length-4 c = search needs
 
 returns-2 : tie.Need-returns-2
-returns-2 c = malformed (checked (c .before .before .before .before)) _ (ap parsed (sym (c .before .enum-told .given .1)) ∙ c .before .before .before .parse .ensures) (c .refused2 .ensures)
+returns-2 c =
+    let said = ap parsed (sym (c .before .enum-told .given .1)) ∙ c .before .before .before .parse .ensures in
+    malformed (checked (c .before .before .before .before)) _ said (c .refused2 .ensures)
 
 belongs-requires : tie.Need-belongs-requires
 belongs-requires c κs = checked (c .before .before .before .before .before) .inbox
@@ -68,10 +73,14 @@ same-length-6 : tie.Need-same-length-6
 same-length-6 c = search needs
 
 returns-3 : tie.Need-returns-3
-returns-3 c = foreign (checked (c .before .before .before .before .before .before .before .before)) _ _ (frame (c .before .before .before .before .before)) (c .before .before .belongs .ensures) (c .before .if2 .taken) (c .refused3 .ensures)
+returns-3 c =
+    let f = c .before .before .before .before .before in
+    foreign (checked (to-checks f)) _ _ (frame f) (c .before .before .belongs .ensures) (c .before .if2 .taken) (c .refused3 .ensures)
 
 hear-requires : tie.Need-hear-requires
-hear-requires c κs = fits (c .before .before)
+hear-requires c κs =
+    let f = c .before .before .before .before .before .before in
+    fit (checked (to-checks f)) _ _ (frame f) (c .before .before .before .belongs .ensures) (c .before .before .if2 .left)
 
 same-length-7 : tie.Need-same-length-7
 same-length-7 c = search needs
@@ -80,7 +89,9 @@ same-length-8 : tie.Need-same-length-8
 same-length-8 c = search needs
 
 returns-4 : tie.Need-returns-4
-returns-4 c = taken (checked (c .before .before .before .before .before .before .before .before .before .before .before .before .before .before)) _ _ (frame (c .before .before .before .before .before .before .before .before .before .before .before)) (c .before .before .before .before .before .before .before .before .belongs .ensures) (c .before .before .before .before .before .before .before .if2 .left) (c .before .before .before .before .hear .ensures)
+returns-4 c =
+    let f = c .before .before .before .before .before .before .before .before .before .before .before in
+    taken (checked (to-checks f)) _ _ (frame f) (c .before .before .before .before .before .before .before .before .belongs .ensures) (c .before .before .before .before .before .before .before .if2 .left) (c .before .before .before .before .hear .ensures)
 
 pub receive-spec : {M : Type 1} → statement M
 receive-spec =
