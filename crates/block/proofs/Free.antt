@@ -9,10 +9,11 @@ use native.Mathlib.Omega.{arith}
 use native.Mathlib.Decide.{ℕ-discrete}
 use lib.ListN.{drop}
 use lib.Dec.{eqb}
-use lib.Count.{trailingZeros}
+use lib.Count.{trailingZeros, trailing-of-zero}
 use borrow.Author.Tests.{lt-ltb}
-use Rattle.model.specs.Block.{word, room, bit, occupiedAt}
+use Rattle.model.specs.Block.{word, room, bit, occupiedAt, Words}
 use Rattle.model.specs.Heap.{freeFrom, firstOf}
+use Rattle.block.specs.Words.{FullWords}
 use Rattle.model.proofs.Bits.{below-all-set, at-clear}
 
 -- nodes that are taken are passed over
@@ -61,6 +62,47 @@ module _ (b : List ℕ) (w : ℕ) (fits : word b (17 + w) < 2 ^ 32) (whole : roo
       ∙ ap firstOf (skip (occupiedAt b) (low0 b w) (suc (32 * w)) (suc (room b - 32 * w - low0 b w - 1)) (taken-in (low0 b w) (omega arith) (omega arith)))
       ∙ here (occupiedAt b) (suc (32 * w) + low0 b w) (room b - 32 * w - low0 b w - 1) (occupied-in (suc (32 * w) + low0 b w) (low0 b w) (omega arith) h ∙ rw (at-clear 32 (word b (17 + w)) fits h))
       ∙ omega arith
+
+-- words of all ones are passed over
+full-word : (b : List ℕ) (w : ℕ) → word b (17 + w) ≡ 4294967295 → low0 b w ≡ 32
+full-word b w e = rw e (trailing-of-zero 32)
+
+pub over-words : (b : List ℕ) (n w : ℕ) → room b % 32 ≡ 0 → w + n ≤ room b / 32 → FullWords b w n
+    → freeFrom (occupiedAt b) (suc (32 * w)) (room b - 32 * w) ≡ freeFrom (occupiedAt b) (suc (32 * (w + n))) (room b - 32 * (w + n))
+over-words b zero w whole le f = rw (add-zero w) refl
+over-words b (suc n) w whole le f =
+    let low : 17 + w ≡ 17 + (w + 0) = omega arith in
+    let here : word b (17 + w) ≡ 4294967295 = ap (word b) low ∙ f 0 (omega arith) in
+    let next : w + 1 + n ≡ w + suc n = omega arith in
+    over-word b w (omega (arith, here)) whole (omega arith) (omega (arith, full-word b w here))
+    ∙ over-words b n (w + 1) whole (omega arith) (λ i lt. let q : 17 + (w + 1 + i) ≡ 17 + (w + suc i) = omega arith in ap (word b) q ∙ f (suc i) (omega arith))
+    ∙ ap (λ x. freeFrom (occupiedAt b) (suc (32 * x)) (room b - 32 * x)) next
+
+-- eight words whose sum is as large as it can be
+pub eight : (b : List ℕ) (w : ℕ) → Words b
+    → word b (17 + w) + word b (17 + w + 1) + word b (17 + w + 2) + word b (17 + w + 3) + (word b (17 + w + 4) + word b (17 + w + 5) + word b (17 + w + 6) + word b (17 + w + 7)) ≡ 34359738360
+    → FullWords b w 8
+eight b w fits e i lt = go i lt
+  where
+    at : (j : ℕ) → word b (17 + w + j) ≡ 4294967295 → word b (17 + (w + j)) ≡ 4294967295
+    at j p = let q : 17 + (w + j) ≡ 17 + w + j = omega arith in ap (word b) q ∙ p
+
+    most : (j : ℕ) → word b (17 + w + j) ≤ 4294967295
+    most j = omega (arith, fits (17 + w + j))
+
+    first : word b (17 + w) ≤ 4294967295
+    first = omega (arith, fits (17 + w))
+
+    go : (i : ℕ) → i < 8 → word b (17 + (w + i)) ≡ 4294967295
+    go zero p = let q : 17 + (w + 0) ≡ 17 + w = omega arith in ap (word b) q ∙ omega (arith, e, most 1, most 2, most 3, most 4, most 5, most 6, most 7, first)
+    go (suc zero) p = at 1 (omega (arith, e, first, most 1, most 2, most 3, most 4, most 5, most 6, most 7))
+    go (suc (suc zero)) p = at 2 (omega (arith, e, first, most 1, most 2, most 3, most 4, most 5, most 6, most 7))
+    go (suc (suc (suc zero))) p = at 3 (omega (arith, e, first, most 1, most 2, most 3, most 4, most 5, most 6, most 7))
+    go (suc (suc (suc (suc zero)))) p = at 4 (omega (arith, e, first, most 1, most 2, most 3, most 4, most 5, most 6, most 7))
+    go (suc (suc (suc (suc (suc zero))))) p = at 5 (omega (arith, e, first, most 1, most 2, most 3, most 4, most 5, most 6, most 7))
+    go (suc (suc (suc (suc (suc (suc zero)))))) p = at 6 (omega (arith, e, first, most 1, most 2, most 3, most 4, most 5, most 6, most 7))
+    go (suc (suc (suc (suc (suc (suc (suc zero))))))) p = at 7 (omega (arith, e, first, most 1, most 2, most 3, most 4, most 5, most 6, most 7))
+    go (suc (suc (suc (suc (suc (suc (suc (suc i)))))))) p = absurd (omega arith)
 
 -- what was found
 pub found-cons : (fs : List ℕ) (n : ℕ) → n ≡ firstOf fs → n ≢ 0 → fs ≡ n ∷ drop 1 fs

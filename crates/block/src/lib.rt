@@ -6,11 +6,13 @@ use words::set_word;
 use words::take_bit;
 use words::write;
 ghost use mathlib.Core.Path.{_≡_};
-ghost use Prim.Native.Nat.{ℕ, _+_, _<_, _≤_};
-ghost use Rattle.model.specs.Heap.{Named, sizeAt, tree, Linked, lowest};
+ghost use mathlib.Core.Bool.{true};
+ghost use Prim.Native.Nat.{ℕ, suc, _+_, _-_, _*_, _/_, _<_, _≤_};
+ghost use Rattle.model.specs.Heap.{Named, sizeAt, tree, Linked, freeFrom, lowest};
 ghost use Rattle.model.specs.Moves.{Raised, Running, FullBelow};
-ghost use Rattle.model.specs.Block.{heap, room, nodeWord, Shaped};
+ghost use Rattle.model.specs.Block.{heap, room, nodeWord, occupiedAt, Shaped};
 ghost use Rattle.model.specs.Supply.{make};
+ghost use Rattle.block.specs.Words.{FullWords};
 ghost use Rattle.block.specs.Outcome.{Outcome, nodeOf};
 
 // A node without its size and count.
@@ -84,13 +86,45 @@ pub fn raise(b: &mut [u32], n: u32)
     }
 }
 
+fn wide(x: u32) -> usize
+    ensures { λ r. ⌜ (r ≡ x) × (r < 4294967296) ⌝ }
+{
+    x as usize
+}
+
+// Whether the eight occupancy words from w on are all ones: only then is their sum as large as it can be.
+fn eight_full(b: &[u32], w: u32) -> bool
+    requires { ⌜ Shaped (now b) × (w + 8 ≤ room (now b) / 32) ⌝ }
+    ensures { λ r. ⌜ (r ≡ true → FullWords (now (b .entry)) w 8) ⌝ }
+{
+    let k = (17 + w) as usize;
+    let s = wide(b[k]) + wide(b[k + 1]) + wide(b[k + 2]) + wide(b[k + 3]);
+    let t = wide(b[k + 4]) + wide(b[k + 5]) + wide(b[k + 6]) + wide(b[k + 7]);
+    s + t == 34359738360
+}
+
+// Some of the first words that are all ones. Eight at a time: a large edit makes thousands of nodes, and each looks past those made before it.
+fn full_words(b: &[u32], m: u32) -> u32
+    requires { ⌜ Shaped (now b) × (m ≡ room (now b) / 32) ⌝ }
+    ensures { λ r. ⌜ (r ≤ m) × (freeFrom (occupiedAt (now (b .entry))) (suc (32 * r)) (room (now (b .entry)) - 32 * r) ≡ freeFrom (occupiedAt (now (b .entry))) 1 (room (now (b .entry)))) ⌝ }
+{
+    let mut w = 0u32;
+    while w + 8 <= m {
+        if !eight_full(b, w) {
+            return w;
+        }
+        w += 8;
+    }
+    w
+}
+
 // The lowest unoccupied node, or 0: the first word that is not all ones has it.
 fn lowest_free(b: &[u32]) -> u32
     requires { ⌜ Shaped (now b) ⌝ }
     ensures { λ r. ⌜ r ≡ lowest (heap (now (b .entry))) ⌝ }
 {
     let m = b[0] / 32;
-    let mut w = 0u32;
+    let mut w = full_words(b, m);
     while w < m {
         let k = (17 + w) as usize;
         let x = b[k];

@@ -1,6 +1,5 @@
 -- Words whose nodes are all occupied are passed over; in the first other word the lowest bit that is 0 is the node.
 use native.Mathlib.Omega.{arith}
-use native.Mathlib.Nat.{sub-zero}
 use borrow.Author.Needs.{needs}
 use mathlib.Core.Path.{_≡_, refl, sym, ap, _∙_}
 use Prim.Native.Nat.{suc, _+_, _-_, _*_, _/_, _≤_}
@@ -19,8 +18,11 @@ abbrev μ-loop : tie.MeasureT-loop
 shared-slice-read-m : tie.Need-shared-slice-read-m Inv-loop μ-loop
 shared-slice-read-m c = search needs
 
+full-words-requires : tie.Need-full-words-requires Inv-loop μ-loop
+full-words-requires c κs = (c .before .before .pre, refl)
+
 loop-holds : tie.Need-loop-holds Inv-loop μ-loop
-loop-holds c = (refl, omega arith, rw sub-zero)
+loop-holds c = (refl, c .full-words .ensures .0, c .full-words .ensures .1)
 
 add-k : tie.Need-add-k Inv-loop μ-loop
 add-k c = search needs
@@ -45,9 +47,9 @@ add-result-2 c = search needs
 
 returns : tie.Need-returns Inv-loop μ-loop
 returns c =
-    let st = c .before .before .before .before .before in
+    let st = c .before .before .before .before .before .before .before in
     let at = c .before .before .before .loop in
-    let fits = c .before .shared-slice-known2 .given (17 + at .w) in
+    let fits = c .before .shared-slice-known3 .given (17 + at .w) in
     sym (in-word (st .args .b .now) (at .w) (omega arith) (st .pre .whole) (omega arith) (c .if1 .taken)) ∙ ap firstOf (at .inv .2)
 
 add-w : tie.Need-add-w Inv-loop μ-loop
@@ -58,14 +60,14 @@ loop-less c = search needs
 
 loop-again : tie.Need-loop-again Inv-loop μ-loop
 loop-again c =
-    let st = c .before .before .before .before .before in
+    let st = c .before .before .before .before .before .before .before in
     let at = c .before .before .before .loop in
-    let fits = c .before .shared-slice-known2 .given (17 + at .w) in
+    let fits = c .before .shared-slice-known3 .given (17 + at .w) in
     (at .inv .0, omega arith, sym (over-word (st .args .b .now) (at .w) (omega arith) (st .pre .whole) (omega arith) (c .if1 .left)) ∙ at .inv .2)
 
 returns-2 : tie.Need-returns-2 Inv-loop μ-loop
 returns-2 c =
-    let b = c .before .before .before .args .b .now in
+    let b = c .before .before .before .before .before .args .b .now in
     let at = c .before .loop in
     let none : room b - 32 * at .w ≡ 0 = omega arith in
     sym (none-left (occupiedAt b) (suc (32 * at .w))) ∙ ap (λ k. firstOf (freeFrom (occupiedAt b) (suc (32 * at .w)) k)) (sym none) ∙ ap firstOf (at .inv .2)
@@ -77,6 +79,7 @@ lowest-free-spec =
     Inv-loop
     μ-loop
     shared-slice-read-m
+    full-words-requires
     loop-holds
     add-k
     cast-k
