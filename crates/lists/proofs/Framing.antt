@@ -7,7 +7,6 @@ use mathlib.Core.List.{List, [], _∷_, map}
 use native.Mathlib.Omega.{arith}
 use lib.ListN.{length, getD, length-map}
 use borrow.Author.Tests.{lt-ltb, le-ltb}
-use Rattle.model.specs.Delta.{Change, changeAt}
 use Rattle.model.specs.Frame.{Frame, line, frameOf, nothing, framesOf, frameAt}
 use Rattle.model.proofs.Lines.{line-length}
 use Rattle.model.proofs.Frames.{frames-length, frame-at}
