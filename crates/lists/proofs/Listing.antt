@@ -126,13 +126,14 @@ module _ {b ws words : List ℕ} {left right start : ℕ} {q : Walked} (W : Walk
   unfolding written
   wrote out = rw (part-rows start (length out) (k .rows))
 
-  pub walked-done : {out after : List ℕ} (a : Report) (n m : ℕ) → q ≡ Total n → m ≡ min (length out / 4) (n - start) → after ≡ take (4 * m) words ++ drop (4 * m) out
+  -- m rows are copied, i words
+  pub walked-done : {out after : List ℕ} {i : ℕ} (a : Report) (n m : ℕ) → q ≡ Total n → m ≡ min (length out / 4) (n - start) → i ≡ 4 * m → after ≡ take i words ++ drop i out
       → a ≡ record { number = 0; written = 4 * m; total = n } → Lists b out after start (listed b left right) a
-  walked-done {out} {after} a n m e g c f =
+  walked-done {out} {after} {i} a n m e g j c f =
       let d = answer-total Rows k (sym e ∙ W .answered) in
       let s = walked-few n e in
       let P = part-rows start (length out) (k .rows) in
       let total : n ≡ length (map rowWords (k .rows)) = s .0 ∙ sym (length-map (k .rows) rowWords) in
       let long : 4 * m ≡ length (model.part 4 start (length out) (map rowWords (k .rows))) = rw (← P) (omega (arith, part-long Rows start (k .rows) (length out), d .1)) in
-      let same : after ≡ written Rows start (k .rows) out = c ∙ (ap (λ (xs : List ℕ). take (4 * m) xs ++ drop (4 * m) out) (W .wrote) ∙ copied start m (k .rows) ws out (omega (arith, W .long)) (omega (arith, s .0))) in
+      let same : after ≡ written Rows start (k .rows) out = c ∙ rw (j, W .wrote) (copied start m (k .rows) ws out (omega (arith, W .long)) (omega (arith, s .0))) in
       lists-done start (listed b left right) begun a (d .0) (f ∙ cc) (same ∙ wrote out)

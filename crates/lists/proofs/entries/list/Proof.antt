@@ -1,10 +1,9 @@
 -- The checks come first, then a walk into words of its own; what fits of them is copied to the output, so a refusal leaves it alone.
 use borrow.Author.Needs.{needs}
 use native.Mathlib.Omega.{arith}
-use mathlib.Core.Path.{refl, ap, _∙_}
+use mathlib.Core.Path.{refl}
 use Prim.Native.Nat.{ℕ, _≤_}
-use mathlib.Core.List.{_++_}
-use lib.ListN.{take, drop, replicate, length-replicate}
+use lib.ListN.{replicate, length-replicate}
 use Rattle.model.specs.Lists.{listed}
 use Rattle.model.proofs.Versions.{version-named}
 use Rattle.table.proofs.Admitting.{two-versions, Admission, admission}
@@ -97,10 +96,7 @@ returns-3 : tie.Need-returns-3
 returns-3 c =
     let p = c .before .before in
     let s = p .before .before .before .before in
-    let w = walks (walk-of s) in
-    let o = start-of (else-of (walk-of s)) .args .out .now in
-    let ws = walk-of s .walk .last .1 .1 .1 .1 .1 .0 in
-    walked-done w _ _ (s .shown .result) (s .before .before .total .given .1) (s .shown .ensures) (p .copy-words .ensures ∙ ap (λ n. take n ws ++ drop n o) (p .before .before .wide .ensures)) refl
+    walked-done (walks (walk-of s)) _ _ (s .shown .result) (s .before .before .total .given .1) (s .shown .ensures) (p .before .before .wide .ensures) (p .copy-words .ensures) refl
 
 pub list-spec : {M : Type 1} → statement M
 list-spec =
