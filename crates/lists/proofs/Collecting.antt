@@ -1,15 +1,15 @@
 -- Two walks into one row of words give the delta: it is at most N long, so that the first leaves room for the second.
-use mathlib.Core.Path.{_≡_, refl, ap, sym, _∙_}
+use mathlib.Core.Path.{_≡_, sym, _∙_}
 use Prim.Native.Nat.{ℕ, _+_, _-_, _*_, _/_, _≤_, _<_}
-use mathlib.Core.Bool.{Bool, true, false}
+use mathlib.Core.Bool.{true, false}
 use mathlib.Core.List.{List, _++_, append-assoc}
 use native.Mathlib.Omega.{arith}
 use lib.ListN.{length, take, drop, length-append, length-drop}
-use lib.Seq.{take-at, drop-at, take-all}
+use lib.Seq.{take-at, take-all}
 use Rattle.model.specs.Tree.{Tree}
 use Rattle.model.specs.Heap.{tree, version}
 use Rattle.model.specs.Block.{heap, SoundBlock}
-use Rattle.model.specs.Listing.{Row, Walk, listing}
+use Rattle.model.specs.Listing.{Row, listing}
 use Rattle.model.specs.Delta.{Change, puts, removes, delta, deltaDeep}
 use Rattle.model.proofs.DeltaRoom.{listing-room, delta-room}
 use Rattle.walk.specs.declared.Wanted.{Wanted}

@@ -7,7 +7,6 @@ use mathlib.Core.List.{List, [], _∷_, map}
 use native.Mathlib.Omega.{arith}
 use lib.ListN.{length, getD, length-map}
 use borrow.Author.Tests.{lt-ltb, le-ltb}
-use Rattle.model.specs.Delta.{Change, changeAt}
 use Rattle.model.specs.Frame.{Frame, line, frameOf, nothing, framesOf, frameAt}
 use Rattle.model.proofs.Lines.{line-length}
 use Rattle.model.proofs.Frames.{frames-length, frame-at}
@@ -77,9 +76,9 @@ module _ (batch puts : ℕ) (ws : List ℕ) where
     unfolding linesIn
     lines-long = length-map (framesOf batch (changesIn puts ws n 0)) line ∙ frames-long n
 
-    pub lines-at : (i : ℕ) → i < atLeastOne n → line (frameIn batch puts n ws i) ≡ getD (linesIn batch puts n ws) i []
+    pub lines-at : (i : ℕ) → i < atLeastOne n → {f : Frame} → f ≡ frameIn batch puts n ws i → line f ≡ getD (linesIn batch puts n ws) i []
     unfolding linesIn
-    lines-at i h =
+    lines-at i h e =
         let fs = framesOf batch (changesIn puts ws n 0) in
         let l = frames-long n in
-        sym (map-at line fs i (nothing 0) [] (omega arith) ∙ ap line (frame-in n i h))
+        ap line e ∙ sym (map-at line fs i (nothing 0) [] (omega arith) ∙ ap line (frame-in n i h))

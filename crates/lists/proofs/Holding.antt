@@ -102,9 +102,6 @@ module _ {ps rs : List Change} {p : ℕ} {rest ws : List ℕ} (H : Held ps rs p 
   unfolding changeIn
   held-at i h = go (decLe (length ps) i)
     where
-      none-at : Change
-      none-at = record { key = 0; now = none }
-
       key : getD ws (2 * i) 0 ≡ changeAt (ps ++ rs) i .key
       key = rw (H .words) (key-word (ps ++ rs) rest i h)
 

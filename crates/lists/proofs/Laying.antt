@@ -4,8 +4,8 @@ use Prim.Native.Nat.{ℕ, zero, suc, _+_, _-_, _*_, _/_, _≤_, _<_, min}
 use mathlib.Core.List.{List, [], _∷_, _++_, map, append-assoc, append-nil}
 use native.Mathlib.Omega.{arith}
 use native.Mathlib.Decide.{decLe}
-use lib.ListN.{length, getD, take, drop, length-append, length-drop, length-take}
-use lib.Seq.{take-at, take-all, take-nil, drop-append-add, drop-drop, getD-drop}
+use lib.ListN.{length, getD, take, drop, length-append, length-drop}
+use lib.Seq.{take-at, take-all, drop-append-add, drop-drop, getD-drop}
 use Rattle.model.specs.Lists.{laid, part, over}
 
 -- map, take and drop change places
@@ -26,7 +26,7 @@ module _ {A B : Type 0} (f : A → B) where
   map-at (x ∷ xs) (suc i) d e h = map-at xs i d e (omega arith)
 
 -- no more than there are
-take-min : {A : Type 0} (n : ℕ) (xs : List A) → take (min n (length xs)) xs ≡ take n xs
+pub take-min : {A : Type 0} (n : ℕ) (xs : List A) → take (min n (length xs)) xs ≡ take n xs
 take-min n xs = go (decLe (length xs) n)
   where
     go : Dec (length xs ≤ n) → take (min n (length xs)) xs ≡ take n xs

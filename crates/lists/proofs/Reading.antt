@@ -1,17 +1,17 @@
 -- What the call frames writes, cut every 35 bytes and parsed, is the delta's frames from the start index on.
 use mathlib.Core.Path.{_≡_, refl, ap, sym, _∙_}
-use mathlib.Core.Logic.{_⊎_, inl, inr, ⊎-elim}
+use mathlib.Core.Logic.{inl, inr, ⊎-elim}
 use Prim.Native.Nat.{ℕ, zero, suc, _+_, _*_, _^_, _≤_, _<_, compare, Ordering, Ordering·lt, Ordering·eq, Ordering·gt}
 use mathlib.Core.Bool.{false}
 use mathlib.Core.Option.{Option, none, some}
-use mathlib.Core.List.{List, [], _∷_, _++_, map}
+use mathlib.Core.List.{List, [], _∷_, map}
 use native.Mathlib.Omega.{arith}
 use lib.ListN.{length, take, drop, length-map}
 use Rattle.model.specs.Tree.{Tree, Entry, entries, cut, find}
-use Rattle.model.specs.Heap.{Occupied, Named, Linked, tree, version}
+use Rattle.model.specs.Heap.{Named, Linked, tree, version}
 use Rattle.model.specs.Block.{heap, nodeWord, Words, SoundBlock}
 use Rattle.model.specs.Listing.{_∈_}
-use Rattle.model.specs.Delta.{Change, delta, deltaDeep, changeAt}
+use Rattle.model.specs.Delta.{delta, deltaDeep, changeAt}
 use Rattle.model.specs.Frame.{line, parse, nothing, frames, frameAt}
 use Rattle.model.specs.Calls.{fails, passes, Versions}
 use Rattle.model.specs.Lists.{Report, Lists, framed}

@@ -7,12 +7,29 @@ use block::root;
 use table::checks::admit;
 use walk::Walked;
 use walk::Wanted;
+ghost use mathlib.Core.Path.{_≡_};
+ghost use mathlib.Core.List.{_++_};
+ghost use Prim.Native.Nat.{_≤_};
+ghost use lib.ListN.{length, take, drop};
 ghost use Rattle.model.specs.Lists.{Lists, listed};
 ghost use Rattle.lists.specs.Reports.{reportOf, Shows};
 
 const TOO_DEEP: u32 = 6;
 
+// The first n words of `from` to the front of `out`.
+fn copy_words(from: &[u32], n: usize, out: &mut [u32])
+    requires { ⌜ (n ≤ length (now from)) × (n ≤ length (now out)) ⌝ }
+    ensures { λ _. ⌜ now (out .exit) ≡ take n (now (from .entry)) ++ drop n (now (out .entry)) ⌝ }
+{
+    let mut i: usize = 0;
+    while i < n {
+        out[i] = from[i];
+        i = i + 1;
+    }
+}
+
 // The whole of the output is in this contract: words behind the part stay, and a refusal leaves all of them.
+// A walk may be given up half-way, so it writes to words of its own: a listing has at most N entries, 4,096.
 pub fn list(b: &[u32], left: u32, right: u32, start: u32, out: &mut [u32]) -> Report
     ensures { λ r. ⌜ Lists (now (b .entry)) (now (out .entry)) (now (out .exit)) start (listed (now (b .entry)) left right) (reportOf r) ⌝ }
 {
@@ -20,13 +37,14 @@ pub fn list(b: &[u32], left: u32, right: u32, start: u32, out: &mut [u32]) -> Re
     if n != 0 {
         return refusal(n);
     }
-    let room = out.len() / 4;
     let l = root(b, left);
     let r = root(b, right);
-    let Walked::Total(total) = walk::list(b, l, r, Wanted::Rows, start, out) else {
+    let mut words = [0u32; 16384];
+    let Walked::Total(total) = walk::walk(b, l, r, Wanted::Rows, start, &mut words) else {
         return refusal(TOO_DEEP);
     };
-    let k = shown(total, start, room);
+    let k = shown(total, start, out.len() / 4);
+    copy_words(&words, wide(4 * k), out);
     Report {
         number: 0,
         written: 4 * k,

@@ -1,9 +1,8 @@
 -- The checks come first and both walks before the first line, so a refusal writes nothing; then the lines of the collected changes are written.
 use borrow.Author.Needs.{needs}
 use native.Mathlib.Omega.{arith}
-use mathlib.Core.Path.{refl, ap, _∙_}
+use mathlib.Core.Path.{refl, ap}
 use Rattle.model.specs.Lists.{framed}
-use Rattle.model.specs.Lists as model
 use Rattle.table.proofs.Admitting.{two-versions, Admission, admission}
 use Rattle.lists.specs.Reports.{reportOf}
 use Rattle.lists.proofs.Reporting.{lists-refused}

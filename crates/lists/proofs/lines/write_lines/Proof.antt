@@ -1,8 +1,6 @@
 -- Each turn writes the next line behind those written, until the room or the lines are used up.
 use native.Mathlib.Omega.{arith}
-use mathlib.Core.Path.{ap, _∙_}
 use Prim.Native.Nat.{_+_, _-_, _<_, _≤_}
-use Rattle.model.specs.Frame.{line}
 use Rattle.lists.specs.Changes.{atLeastOne, linesIn}
 use Rattle.lists.proofs.Laying.{Laid, laid-none, laid-same, laid-next, laid-all}
 use Rattle.lists.proofs.Framing.{one-few, lines-wide, lines-long, lines-at}
@@ -63,7 +61,7 @@ loop-again : tie.Need-loop-again Inv-loop μ-loop
 loop-again c =
     let t = c .before .before .before .before .before .before in
     let a = start-of (t .before .before) .args in
-    let is = ap line (c .before .before .before .before .before .frame-at .ensures) ∙ lines-at (a .batch) (a .puts) (a .changes .now) (a .count) (a .start + t .before .loop .i) (within t) in
+    let is = lines-at (a .batch) (a .puts) (a .changes .now) (a .count) (a .start + t .before .loop .i) (within t) (c .before .before .before .before .before .frame-at .ensures) in
     laid-next (t .before .loop .inv) (c .before .before .before .wide .result) _ (c .before .before .before .wide .ensures) (t .loop-test .taken) is (c .before .before .write .ensures)
 
 mul-result : tie.Need-mul-result Inv-loop μ-loop
