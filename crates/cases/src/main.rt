@@ -1,4 +1,6 @@
-// Cases 10 and 11 of document 01 and the longest chains, run through the public calls; what is printed is compared.
+// Cases 9 to 11 of document 01 and the longest chains, run through the public calls; what is printed is compared.
+use link::parse;
+use lists::entries::list;
 use table::Answer;
 use table::clear;
 use table::copy;
@@ -131,7 +133,7 @@ fn put(b: &mut [u32], at: usize, x: u32) {
 }
 
 // Node i + 1 of a right chain of the keys 1 to n.
-fn link(b: &mut [u32], i: u32, n: u32)
+fn right_link(b: &mut [u32], i: u32, n: u32)
     requires { ⌜ (i < n) × (n ≤ 4096) ⌝ }
 {
     let at = (145 + 6 * i) as usize;
@@ -151,7 +153,7 @@ fn chain(b: &mut [u32], n: u32)
     let mut i = 0;
     while i < n {
         put(b, (17 + i / 32) as usize, 4294967295);
-        link(b, i, n);
+        right_link(b, i, n);
         i += 1;
     }
 }
@@ -181,10 +183,69 @@ fn half_chain() {
     text(b"\n");
 }
 
+// Node i + 1 of a left chain of the keys n down to 1, at N = 96.
+fn left_link(b: &mut [u32], i: u32, n: u32)
+    requires { ⌜ (i < n) × (n ≤ 96) ⌝ }
+{
+    let at = (20 + 6 * i) as usize;
+    put(b, at, n - i);
+    put(b, at + 1, n - i);
+    put(b, at + 2, if i + 1 < n { i + 2 } else { 0 });
+    put(b, at + 4, n - i);
+    put(b, at + 5, 1);
+}
+
+// Version 0 of N = 96 becomes a left chain of 64 and `more` nodes, by hand, and is listed against empty.
+fn left_chain(more: u32)
+    requires { ⌜ more ≤ 1 ⌝ }
+{
+    let mut b = [0u32; 596];
+    let mut out = [0u32; 4];
+    fresh(&mut b, 96);
+    put(&mut b, 1, 1);
+    put(&mut b, 17, 4294967295);
+    put(&mut b, 18, 4294967295);
+    put(&mut b, 19, more);
+    let mut i = 0;
+    while i < 64 + more {
+        left_link(&mut b, i, 64 + more);
+        i += 1;
+    }
+    let r = list(&b, 0, 15, 0, &mut out);
+    text(b" ");
+    io::print_decimal(1, r.number as u64);
+    text(b" of ");
+    io::print_decimal(1, r.total as u64);
+}
+
+fn deepest() {
+    text(b"case 9: left chain of 64:");
+    left_chain(0);
+    text(b", of 65:");
+    left_chain(1);
+    text(b"\n");
+}
+
+fn said(line: &[u8]) {
+    let a = parse(line);
+    text(b" ");
+    io::print_decimal(1, a.number as u64);
+}
+
+fn digits() {
+    text(b"case 11: 34 digits");
+    said(b"000000070000000101000000030000001f\n");
+    text(b", 33 digits");
+    said(b"00000007000000010100000003000001f\n");
+    text(b"\n");
+}
+
 fn main() {
+    deepest();
     exact_room();
     known_versions();
     largest();
+    digits();
     known_rules();
     full_chain();
     half_chain();

@@ -11,11 +11,10 @@ use lib.ListN.{length, take, drop, length-append, length-take, length-drop}
 use lib.Seq.{sets, sets-eq, take-at, drop-append-add, drop-drop}
 use lib.Dec.{ltb}
 use borrow.Author.Tests.{lt-ltb, le-ltb, le-leb, lt-leb}
-use Rattle.model.specs.Listing.{Row, Walk}
+use Rattle.model.specs.Listing.{Row}
 use Rattle.walk.specs.declared.Wanted.{Wanted}
 use Rattle.walk.specs.declared.Wanted.the-variants.{Rows, Puts, Removes}
-use Rattle.walk.specs.declared.Walked.the-variants.{Total, TooDeep}
-use Rattle.walk.specs.Rows.{wants, chosen, width, words, wordsOf, part, written, answer, kept, putAt, counted, shown}
+use Rattle.walk.specs.Rows.{wants, chosen, width, words, wordsOf, part, written, putAt, counted, shown}
 
 -- all rows shown, the first after n wanted ones
 unfoldable pub shows : Wanted → ℕ → ℕ → List Row → List ℕ → List ℕ
@@ -177,21 +176,3 @@ chosen-more w n r rs = go (wants w r)
     go : (t : Bool) → n + length {A = Row} (elim t [ true ↦ r ∷ chosen w rs | false ↦ chosen w rs ]) ≡ (n + elim t [ true ↦ 1 | false ↦ 0 ]) + length (chosen w rs)
     go true = omega arith
     go false = omega arith
-
--- a refused call keeps its output, any other writes
-module _ (w : Wanted) (start : ℕ) (k : Walk) (out : List ℕ) where
-  pub kept-refused : TooDeep ≡ answer w k → out ≡ kept w start k out
-  unfolding answer kept
-  kept-refused e = go (k .deep) e
-    where
-      go : (d : Bool) → TooDeep ≡ elim d [ true ↦ TooDeep | false ↦ Total (length (chosen w (k .rows))) ] → out ≡ elim d [ true ↦ out | false ↦ written w start (k .rows) out ]
-      go true e = refl
-      go false e = let z : _≡_ {A = ℕ} 0 1 = cc in absurd (omega arith)
-
-  pub kept-written : {n : ℕ} → Total n ≡ answer w k → written w start (k .rows) out ≡ kept w start k out
-  unfolding answer kept
-  kept-written {n} e = go (k .deep) e
-    where
-      go : (d : Bool) → Total n ≡ elim d [ true ↦ TooDeep | false ↦ Total (length (chosen w (k .rows))) ] → written w start (k .rows) out ≡ elim d [ true ↦ out | false ↦ written w start (k .rows) out ]
-      go true e = let z : _≡_ {A = ℕ} 0 1 = cc in absurd (omega arith)
-      go false e = refl

@@ -73,10 +73,6 @@ written w start rows out = part w start (length out) rows ++ drop (length (part 
 unfoldable pub answer : Wanted → Walk → Walked
 answer w k = elim (k .deep) [ true ↦ TooDeep | false ↦ Total (length (chosen w (k .rows))) ]
 
--- the output of a call that may be refused
-unfoldable pub kept : Wanted → ℕ → Walk → List ℕ → List ℕ
-kept w start k out = elim (k .deep) [ true ↦ out | false ↦ written w start (k .rows) out ]
-
 -- a change of the delta as two words: its key, and its value or 0
 unfoldable pub changeWords : List Change → List ℕ
 changeWords [] = []

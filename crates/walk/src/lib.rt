@@ -5,7 +5,7 @@ ghost use Prim.Native.Nat.{_-_, _<_, _≤_};
 ghost use Rattle.model.specs.Heap.{Named, Occupied, Linked, tree};
 ghost use Rattle.model.specs.Block.{heap, Shaped, SoundBlock};
 ghost use Rattle.model.specs.Listing.{listing};
-ghost use Rattle.walk.specs.Rows.{wants, wordsBy, words, width, changedBy, lackingBy, row, putAt, counted, shown, written, answer, kept};
+ghost use Rattle.walk.specs.Rows.{wants, wordsBy, words, width, changedBy, lackingBy, row, putAt, counted, shown, written, answer};
 ghost use Rattle.walk.specs.Cursors.{oneOf, placeOf, popsOf, Standing, openedAt, trees, entries, bothOf, aloneOf, actOf, begun};
 
 // What is pending: a tree, or an entry whose left child has been shown.
@@ -367,18 +367,4 @@ pub fn walk(b: &[u32], left: u32, right: u32, wanted: Wanted, start: u32, out: &
         }
     }
     Walked::Total(n)
-}
-
-// The same, but a refusal leaves the output as it was: the first walk has no output.
-pub fn list(b: &[u32], left: u32, right: u32, wanted: Wanted, start: u32, out: &mut [u32]) -> Walked
-    requires { ⌜ SoundBlock (now b) × Named (heap (now b)) left × Named (heap (now b)) right ⌝ }
-    ensures { λ r. ⌜ r ≡ answer wanted (listing (tree (heap (now (b .entry))) left) (tree (heap (now (b .entry))) right)) ⌝ }
-    ensures { λ r. ⌜ now (out .exit) ≡ kept wanted start (listing (tree (heap (now (b .entry))) left) (tree (heap (now (b .entry))) right)) (now (out .entry)) ⌝ }
-{
-    let mut empty = [0u32; 1];
-    let r = walk(b, left, right, wanted, 0, &mut empty);
-    match r {
-        Walked::TooDeep => Walked::TooDeep,
-        Walked::Total(_) => walk(b, left, right, wanted, start, out),
-    }
 }

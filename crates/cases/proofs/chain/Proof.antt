@@ -30,8 +30,8 @@ cast-put c = search needs
 put-requires-2 : tie.Need-put-requires-2 Inv-loop μ-loop
 put-requires-2 c κs = search needs
 
-link-requires : tie.Need-link-requires Inv-loop μ-loop
-link-requires c κs = search needs
+right-link-requires : tie.Need-right-link-requires Inv-loop μ-loop
+right-link-requires c κs = search needs
 
 add-i : tie.Need-add-i Inv-loop μ-loop
 add-i c = search needs
@@ -60,7 +60,7 @@ chain-spec =
     add-put
     cast-put
     put-requires-2
-    link-requires
+    right-link-requires
     add-i
     loop-less
     loop-again
