@@ -170,6 +170,14 @@ fn best(scene: &Scene, rounds: usize) -> (u128, u128) {
     (exported, own)
 }
 
+/// Reading every word of a block once: no audit can take less.
+fn reading(n: usize, rounds: usize) -> u128 {
+    let block = Table::fresh(n).words();
+    (0..rounds).map(|_| nanoseconds(|| {
+        black_box(black_box(&block).iter().fold(0u32, |sum, &word| sum.wrapping_add(word)));
+    })).min().expect("there is a round")
+}
+
 fn main() {
     let rounds = std::env::args().nth(1).map_or(500, |text| text.parse().expect("rounds is a number"));
     println!("best of {rounds}; ratio = exported call / (the original's own call + the same audit in Rust)");
@@ -180,5 +188,6 @@ fn main() {
             let (exported, own) = best(&scene, rounds);
             println!("{:42} {:6.2} {exported:13} {own:13}", scene.name, exported as f64 / own as f64);
         }
+        println!("{:42} {:>6} {:13}", "reading every word of the block", "", reading(n, rounds));
     }
 }
