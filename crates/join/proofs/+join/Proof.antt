@@ -58,103 +58,78 @@ left t c =
       is = c .read2 .ensures;
     }
 
--- src/lib.rt:23:9
 join-size-at-requires : (t : ℕ) → join-lts.Need-size-at-requires (calls t) (join-at t) join.Post
 join-size-at-requires t c κs = let p = c .before .before .pre .1 in (p .0 .shaped, p .0 .linked, p .1)
 
--- src/lib.rt:24:9
 join-size-at-requires-2 : (t : ℕ) → join-lts.Need-size-at-requires-2 (calls t) (join-at t) join.Post
 join-size-at-requires-2 t c κs = let p = c .before .before .before .before .pre .1 in (p .0 .shaped, p .0 .linked, p .2)
 
--- src/lib.rt:25:21
 join-mul-if1 : (t : ℕ) → join-lts.Need-mul-if1 (calls t) (join-at t) join.Post
 join-mul-if1 t c = omega (arith, c .before .before .before .before .before .pre .1 .3, c .before .before .size-at .ensures)
 
--- src/lib.rt:26:13
 join-read-requires : (t : ℕ) → join-lts.Need-read-requires (calls t) (join-at t) join.Post
 join-read-requires t c κs = let st = c .before .before .before .before .before .before .before in read-asks _ (st .pre .1 .0) (sized-occupied (heap (st .args .b .now)) (st .args .right) (st .pre .1 .2) (omega (arith, c .before .if1 .taken, c .before .before .size-at2 .ensures)))
 
--- src/lib.rt:27:34
 join-join-requires : (t : ℕ) → join-lts.Need-join-requires (calls t) (join-at t) join.Post
 join-join-requires t c κs = right-asks (right t (c .before)) (c .before .before .before .before .before .before .before .before .before .pre .0)
 
--- src/lib.rt:27:22
 join-enum-known-new-left : (t : ℕ) → join-lts.Need-enum-known-new-left (calls t) (join-at t) join.Post
 join-enum-known-new-left t c = search needs
 
--- src/lib.rt:28:13
 join-enum-told : (t : ℕ) → join-lts.Need-enum-told (calls t) (join-at t) join.Post
 join-enum-told t c = search needs
 
--- src/lib.rt:28:13
 join-same-length : (t : ℕ) → join-lts.Need-same-length (calls t) (join-at t) join.Post
 join-same-length t c = search needs
 
--- src/lib.rt:28:13
 join-returns : (t : ℕ) → join-lts.Need-returns (calls t) (join-at t) join.Post
 join-returns t c = spine-stop (right-spine (right t (c .before .before .before .before .before .before)) _ _) (told _ _ (c .enum-told .given .1) (c .before .before .before .before .join .ensures))
 
--- src/lib.rt:30:9
 join-balanced-requires : (t : ℕ) → join-lts.Need-balanced-requires (calls t) (join-at t) join.Post
 join-balanced-requires t c κs = spine-left (right-spine (right t (c .before .before .before .before .before .before .before .before)) _ _) (told _ _ (c .before .before .new-left .given .1) (c .before .before .before .before .before .before .join .ensures))
 
--- src/lib.rt:30:9
 join-same-length-2 : (t : ℕ) → join-lts.Need-same-length-2 (calls t) (join-at t) join.Post
 join-same-length-2 t c = search needs
 
--- src/lib.rt:30:9
 join-returns-2 : (t : ℕ) → join-lts.Need-returns-2 (calls t) (join-at t) join.Post
 join-returns-2 t c = spine-done (right-spine (right t (c .before .before .before .before .before .before .before .before .before .before .before)) _ _) (told _ _ (c .before .before .before .before .before .new-left .given .1) (c .before .before .before .before .before .before .before .before .before .join .ensures)) (c .before .before .balanced .ensures)
 
--- src/lib.rt:32:20
 join-mul-if2 : (t : ℕ) → join-lts.Need-mul-if2 (calls t) (join-at t) join.Post
 join-mul-if2 t c = omega (arith, c .before .before .before .before .before .before .pre .1 .3, c .before .size-at2 .ensures)
 
--- src/lib.rt:33:13
 join-read-requires-2 : (t : ℕ) → join-lts.Need-read-requires-2 (calls t) (join-at t) join.Post
 join-read-requires-2 t c κs = let st = c .before .before .before .before .before .before .before .before in read-asks _ (st .pre .1 .0) (sized-occupied (heap (st .args .b .now)) (st .args .left) (st .pre .1 .1) (omega (arith, c .before .if2 .taken, c .before .before .before .before .before .size-at .ensures)))
 
--- src/lib.rt:34:35
 join-join-requires-2 : (t : ℕ) → join-lts.Need-join-requires-2 (calls t) (join-at t) join.Post
 join-join-requires-2 t c κs = left-asks (left t (c .before)) (c .before .before .before .before .before .before .before .before .before .before .pre .0)
 
--- src/lib.rt:34:22
 join-enum-known-new-right : (t : ℕ) → join-lts.Need-enum-known-new-right (calls t) (join-at t) join.Post
 join-enum-known-new-right t c = search needs
 
--- src/lib.rt:35:13
 join-enum-told-2 : (t : ℕ) → join-lts.Need-enum-told-2 (calls t) (join-at t) join.Post
 join-enum-told-2 t c = search needs
 
--- src/lib.rt:35:13
 join-same-length-3 : (t : ℕ) → join-lts.Need-same-length-3 (calls t) (join-at t) join.Post
 join-same-length-3 t c = search needs
 
--- src/lib.rt:35:13
 join-returns-3 : (t : ℕ) → join-lts.Need-returns-3 (calls t) (join-at t) join.Post
 join-returns-3 t c = spine-stop (left-spine (left t (c .before .before .before .before .before .before)) _ _) (told _ _ (c .enum-told2 .given .1) (c .before .before .before .before .join2 .ensures))
 
--- src/lib.rt:37:9
 join-balanced-requires-2 : (t : ℕ) → join-lts.Need-balanced-requires-2 (calls t) (join-at t) join.Post
 join-balanced-requires-2 t c κs = spine-right (left-spine (left t (c .before .before .before .before .before .before .before .before)) _ _) (told _ _ (c .before .before .new-right .given .1) (c .before .before .before .before .before .before .join2 .ensures))
 
--- src/lib.rt:37:9
 join-same-length-4 : (t : ℕ) → join-lts.Need-same-length-4 (calls t) (join-at t) join.Post
 join-same-length-4 t c = search needs
 
--- src/lib.rt:37:9
 join-returns-4 : (t : ℕ) → join-lts.Need-returns-4 (calls t) (join-at t) join.Post
 join-returns-4 t c = spine-done (left-spine (left t (c .before .before .before .before .before .before .before .before .before .before .before)) _ _) (told _ _ (c .before .before .before .before .before .new-right .given .1) (c .before .before .before .before .before .before .before .before .before .join2 .ensures)) (c .before .before .balanced2 .ensures)
 
--- src/lib.rt:39:5
 join-balanced-requires-3 : (t : ℕ) → join-lts.Need-balanced-requires-3 (calls t) (join-at t) join.Post
 join-balanced-requires-3 t c κs = c .before .before .before .before .before .before .before .before .pre .1
 
--- src/lib.rt:19:1
 join-same-length-5 : (t : ℕ) → join-lts.Need-same-length-5 (calls t) (join-at t) join.Post
 join-same-length-5 t c = search needs
 
--- src/lib.rt:19:1
 join-returns-5 : (t : ℕ) → join-lts.Need-returns-5 (calls t) (join-at t) join.Post
 join-returns-5 t c = let a = c .before .before .before .before .before .before .before .before .before .before .before .args in
     even (a .key) (a .value) (a .left) (a .right) (c .before .before .before .before .before .before .before .before .before .before .before .pre .1) (omega (arith, c .before .before .before .before .before .if1 .left, c .before .before .before .before .before .before .before .before .size-at .ensures, c .before .before .before .before .before .before .size-at2 .ensures)) (omega (arith, c .before .before .before .before .if2 .left, c .before .before .before .before .before .before .before .before .size-at .ensures, c .before .before .before .before .before .before .size-at2 .ensures)) (c .before .before .balanced3 .ensures)

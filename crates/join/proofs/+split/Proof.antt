@@ -40,131 +40,99 @@ opened t c =
     let p = c .before .before .before .before .pre .1 in
     record { level = record { running = p .0; occupied = link-occupied _ _ (p .1) (c .before .before .if1 .left); is = c .read .ensures }; small = p .2 }
 
--- src/lib.rt:68:9
 split-into-pieces-requires : (t : ℕ) → split-lts.Need-into-pieces-requires (calls t) (split-at t) split.Post
 split-into-pieces-requires t c κs = search needs
 
--- src/lib.rt:68:9
 split-returns : (t : ℕ) → split-lts.Need-returns (calls t) (split-at t) split.Post
 split-returns t c = told-parts _ _ (sym (c .into-pieces .ensures)) (split-none _ _ _ (c .before .if1 .taken) (c .before .before .before .pre .1 .0))
 
--- src/lib.rt:70:9
 split-read-requires : (t : ℕ) → split-lts.Need-read-requires (calls t) (split-at t) split.Post
 split-read-requires t c κs = let p = c .before .before .before .pre .1 in read-asks _ (p .0) (link-occupied _ _ (p .1) (c .before .if1 .left))
 
--- src/lib.rt:72:9
 split-into-pieces-requires-2 : (t : ℕ) → split-lts.Need-into-pieces-requires-2 (calls t) (split-at t) split.Post
 split-into-pieces-requires-2 t c κs = search needs
 
--- src/lib.rt:72:9
 split-same-length : (t : ℕ) → split-lts.Need-same-length (calls t) (split-at t) split.Post
 split-same-length t c = search needs
 
--- src/lib.rt:72:9
 split-returns-2 : (t : ℕ) → split-lts.Need-returns-2 (calls t) (split-at t) split.Post
 split-returns-2 t c = told-parts _ _ (sym (c .into-pieces2 .ensures)) (here (opened t (c .before .before .before)) _ (c .before .if2 .taken))
 
--- src/lib.rt:75:31
 split-split-requires : (t : ℕ) → split-lts.Need-split-requires (calls t) (split-at t) split.Post
 split-split-requires t c κs = left-asks (opened t (c .before .before .before .before .before)) (c .before .before .before .before .before .before .before .before .before .pre .0)
 
--- src/lib.rt:75:26
 split-enum-known-p : (t : ℕ) → split-lts.Need-enum-known-p (calls t) (split-at t) split.Post
 split-enum-known-p t c = search needs
 
--- src/lib.rt:76:13
 split-enum-told : (t : ℕ) → split-lts.Need-enum-told (calls t) (split-at t) split.Post
 split-enum-told t c = search needs
 
--- src/lib.rt:76:13
 split-same-length-2 : (t : ℕ) → split-lts.Need-same-length-2 (calls t) (split-at t) split.Post
 split-same-length-2 t c = search needs
 
--- src/lib.rt:76:13
 split-returns-3 : (t : ℕ) → split-lts.Need-returns-3 (calls t) (split-at t) split.Post
 split-returns-3 t c = parting-stop (left-parting (opened t (c .before .before .before .before .before .before .before .before .before .before)) _ (c .before .before .before .before .before .before .if3 .taken)) (told-parts _ _ (c .enum-told .given .1) (c .before .before .before .before .split .ensures))
 
--- src/lib.rt:78:38
 split-join-requires : (t : ℕ) → split-lts.Need-join-requires (calls t) (split-at t) split.Post
 split-join-requires t c κs = let D = (told-parts _ _ (c .before .before .p .given .1) (c .before .before .before .before .before .before .split .ensures)) in parting-left (left-parting (opened t (c .before .before .before .before .before .before .before .before .before .before .before .before)) _ (c .before .before .before .before .before .before .before .before .if3 .taken)) D _ refl (D .right)
 
--- src/lib.rt:78:22
 split-enum-known-joined-right : (t : ℕ) → split-lts.Need-enum-known-joined-right (calls t) (split-at t) split.Post
 split-enum-known-joined-right t c = search needs
 
--- src/lib.rt:79:13
 split-enum-told-2 : (t : ℕ) → split-lts.Need-enum-told-2 (calls t) (split-at t) split.Post
 split-enum-told-2 t c = search needs
 
--- src/lib.rt:79:13
 split-same-length-3 : (t : ℕ) → split-lts.Need-same-length-3 (calls t) (split-at t) split.Post
 split-same-length-3 t c = search needs
 
--- src/lib.rt:79:13
 split-returns-4 : (t : ℕ) → split-lts.Need-returns-4 (calls t) (split-at t) split.Post
 split-returns-4 t c = parting-stop-2 (left-parting (opened t (c .before .before .before .before .before .before .before .before .before .before .before .before .before .before .before .before .before)) _ (c .before .before .before .before .before .before .before .before .before .before .before .before .before .if3 .taken)) (told-parts _ _ (c .before .before .before .before .before .before .before .p .given .1) (c .before .before .before .before .before .before .before .before .before .before .before .split .ensures)) (told _ _ (c .enum-told2 .given .1) (c .before .before .before .before .join .ensures))
 
--- src/lib.rt:82:9
 split-into-pieces-requires-3 : (t : ℕ) → split-lts.Need-into-pieces-requires-3 (calls t) (split-at t) split.Post
 split-into-pieces-requires-3 t c κs = search needs
 
--- src/lib.rt:82:9
 split-same-length-4 : (t : ℕ) → split-lts.Need-same-length-4 (calls t) (split-at t) split.Post
 split-same-length-4 t c = search needs
 
--- src/lib.rt:82:9
 split-returns-5 : (t : ℕ) → split-lts.Need-returns-5 (calls t) (split-at t) split.Post
 split-returns-5 t c = told-parts _ _ (sym (c .into-pieces3 .ensures)) (left-done (opened t (c .before .before .before .before .before .before .before .before .before .before .before .before .before .before .before .before .before .before .before)) _ (c .before .before .before .before .before .before .before .before .before .before .before .before .before .before .before .if3 .taken) (told-parts _ _ (c .before .before .before .before .before .before .before .before .before .p .given .1) (c .before .before .before .before .before .before .before .before .before .before .before .before .before .split .ensures)) (told _ _ (c .before .before .joined-right .given .1) (c .before .before .before .before .before .before .join .ensures)))
 
--- src/lib.rt:84:27
 split-split-requires-2 : (t : ℕ) → split-lts.Need-split-requires-2 (calls t) (split-at t) split.Post
 split-split-requires-2 t c κs = right-asks (opened t (c .before .before .before .before .before)) (c .before .before .before .before .before .before .before .before .before .pre .0)
 
--- src/lib.rt:84:22
 split-enum-known-p-2 : (t : ℕ) → split-lts.Need-enum-known-p-2 (calls t) (split-at t) split.Post
 split-enum-known-p-2 t c = search needs
 
--- src/lib.rt:85:9
 split-enum-told-3 : (t : ℕ) → split-lts.Need-enum-told-3 (calls t) (split-at t) split.Post
 split-enum-told-3 t c = search needs
 
--- src/lib.rt:85:9
 split-same-length-5 : (t : ℕ) → split-lts.Need-same-length-5 (calls t) (split-at t) split.Post
 split-same-length-5 t c = search needs
 
--- src/lib.rt:85:9
 split-returns-6 : (t : ℕ) → split-lts.Need-returns-6 (calls t) (split-at t) split.Post
 split-returns-6 t c = parting-stop (right-parting (opened t (c .before .before .before .before .before .before .before .before .before .before)) _ (c .before .before .before .before .before .before .before .before .if2 .left) (c .before .before .before .before .before .before .if3 .left)) (told-parts _ _ (c .enum-told3 .given .1) (c .before .before .before .before .split2 .ensures))
 
--- src/lib.rt:87:33
 split-join-requires-2 : (t : ℕ) → split-lts.Need-join-requires-2 (calls t) (split-at t) split.Post
 split-join-requires-2 t c κs = let D = (told-parts _ _ (c .before .before .p2 .given .1) (c .before .before .before .before .before .before .split2 .ensures)) in parting-right (right-parting (opened t (c .before .before .before .before .before .before .before .before .before .before .before .before)) _ (c .before .before .before .before .before .before .before .before .before .before .if2 .left) (c .before .before .before .before .before .before .before .before .if3 .left)) D _ refl (D .left)
 
--- src/lib.rt:87:18
 split-enum-known-joined-left : (t : ℕ) → split-lts.Need-enum-known-joined-left (calls t) (split-at t) split.Post
 split-enum-known-joined-left t c = search needs
 
--- src/lib.rt:88:9
 split-enum-told-4 : (t : ℕ) → split-lts.Need-enum-told-4 (calls t) (split-at t) split.Post
 split-enum-told-4 t c = search needs
 
--- src/lib.rt:88:9
 split-same-length-6 : (t : ℕ) → split-lts.Need-same-length-6 (calls t) (split-at t) split.Post
 split-same-length-6 t c = search needs
 
--- src/lib.rt:88:9
 split-returns-7 : (t : ℕ) → split-lts.Need-returns-7 (calls t) (split-at t) split.Post
 split-returns-7 t c = parting-stop-2 (right-parting (opened t (c .before .before .before .before .before .before .before .before .before .before .before .before .before .before .before .before .before)) _ (c .before .before .before .before .before .before .before .before .before .before .before .before .before .before .before .if2 .left) (c .before .before .before .before .before .before .before .before .before .before .before .before .before .if3 .left)) (told-parts _ _ (c .before .before .before .before .before .before .before .p2 .given .1) (c .before .before .before .before .before .before .before .before .before .before .before .split2 .ensures)) (told _ _ (c .enum-told4 .given .1) (c .before .before .before .before .join2 .ensures))
 
--- src/lib.rt:91:5
 split-into-pieces-requires-4 : (t : ℕ) → split-lts.Need-into-pieces-requires-4 (calls t) (split-at t) split.Post
 split-into-pieces-requires-4 t c κs = search needs
 
--- src/lib.rt:63:1
 split-same-length-7 : (t : ℕ) → split-lts.Need-same-length-7 (calls t) (split-at t) split.Post
 split-same-length-7 t c = search needs
 
--- src/lib.rt:63:1
 split-returns-8 : (t : ℕ) → split-lts.Need-returns-8 (calls t) (split-at t) split.Post
 split-returns-8 t c = told-parts _ _ (sym (c .into-pieces4 .ensures)) (right-done (opened t (c .before .before .before .before .before .before .before .before .before .before .before .before .before .before .before .before .before .before .before)) _ (c .before .before .before .before .before .before .before .before .before .before .before .before .before .before .before .before .before .if2 .left) (c .before .before .before .before .before .before .before .before .before .before .before .before .before .before .before .if3 .left) (told-parts _ _ (c .before .before .before .before .before .before .before .before .before .p2 .given .1) (c .before .before .before .before .before .before .before .before .before .before .before .before .before .split2 .ensures)) (told _ _ (c .before .before .joined-left .given .1) (c .before .before .before .before .before .before .join2 .ensures)))
 

@@ -47,97 +47,76 @@ root-at t c =
     let s = c .before .before .before .before .before .before in
     root-chain _ _ (rooted (s .pre .1) (c .before .before .before .before .if1 .left) (c .before .before .before .if2 .left) (c .read .ensures)) (elim (c .before .before .if3 .came) [ inl p ↦ not-shared (s .args .cancel) (s .args .left) (s .args .right) (p .1 .left) | inr p ↦ not-cancelling (s .args .cancel) (s .args .left) (s .args .right) (p .left) ])
 
--- src/lib.rt:81:9
 difference-returns : (t : ℕ) → difference-lts.Need-returns (calls t) (difference-at t) difference.Post
 difference-returns t c = no-left _ _ _ _ _ (c .before .before .pre .1) (c .if1 .taken)
 
--- src/lib.rt:84:9
 difference-returns-2 : (t : ℕ) → difference-lts.Need-returns-2 (calls t) (difference-at t) difference.Post
 difference-returns-2 t c = no-right _ _ _ _ _ (c .before .before .before .pre .1) (c .if2 .taken)
 
--- src/lib.rt:87:9
 difference-returns-3 : (t : ℕ) → difference-lts.Need-returns-3 (calls t) (difference-at t) difference.Post
 difference-returns-3 t c = cancelled _ _ _ _ _ (c .before .before .before .before .before .pre .1) (c .before .before .before .if1 .left) (c .before .before .if2 .left) (c .before .if3 .taken) (c .if4 .taken)
 
--- src/lib.rt:89:9
 difference-read-requires : (t : ℕ) → difference-lts.Need-read-requires (calls t) (difference-at t) difference.Post
 difference-read-requires t c κs = let p = c .before .before .before .before .before .pre .1 in read-asks _ (p .0) (link-occupied _ _ (p .1) (c .before .before .before .if1 .left))
 
--- src/lib.rt:90:27
 difference-split-requires : (t : ℕ) → difference-lts.Need-split-requires (calls t) (difference-at t) difference.Post
 difference-split-requires t c κs = chain-asks (root-at t (c .before))
 
--- src/lib.rt:90:22
 difference-enum-known-r : (t : ℕ) → difference-lts.Need-enum-known-r (calls t) (difference-at t) difference.Post
 difference-enum-known-r t c = search needs
 
--- src/lib.rt:91:9
 difference-enum-told : (t : ℕ) → difference-lts.Need-enum-told (calls t) (difference-at t) difference.Post
 difference-enum-told t c = search needs
 
--- src/lib.rt:91:9
 difference-same-length : (t : ℕ) → difference-lts.Need-same-length (calls t) (difference-at t) difference.Post
 difference-same-length t c = search needs
 
--- src/lib.rt:91:9
 difference-returns-4 : (t : ℕ) → difference-lts.Need-returns-4 (calls t) (difference-at t) difference.Post
 difference-returns-4 t c = settled _ (chain-stop (root-at t (c .before .before .before .before .before .before)) (told-parts _ _ (c .enum-told .given .1) (c .before .before .before .before .split .ensures)))
 
--- src/lib.rt:94:9
 difference-kept-requires : (t : ℕ) → difference-lts.Need-kept-requires (calls t) (difference-at t) difference.Post
 difference-kept-requires t c κs = search needs
 
--- src/lib.rt:95:30
 difference-difference-requires : (t : ℕ) → difference-lts.Need-difference-requires (calls t) (difference-at t) difference.Post
 difference-difference-requires t c κs =
     let e = c .before .before .before in
     left-falls (chain-first (root-at t (e .before .before .before .before .before .before)) (told-parts _ _ (e .r .given .1) (e .before .before .before .before .split .ensures))) (e .before .before .before .before .before .before .before .before .before .before .before .before .pre .0)
 
--- src/lib.rt:95:18
 difference-enum-known-new-left : (t : ℕ) → difference-lts.Need-enum-known-new-left (calls t) (difference-at t) difference.Post
 difference-enum-known-new-left t c = search needs
 
--- src/lib.rt:96:9
 difference-enum-told-2 : (t : ℕ) → difference-lts.Need-enum-told-2 (calls t) (difference-at t) difference.Post
 difference-enum-told-2 t c = search needs
 
--- src/lib.rt:96:9
 difference-same-length-2 : (t : ℕ) → difference-lts.Need-same-length-2 (calls t) (difference-at t) difference.Post
 difference-same-length-2 t c = search needs
 
--- src/lib.rt:96:9
 difference-returns-5 : (t : ℕ) → difference-lts.Need-returns-5 (calls t) (difference-at t) difference.Post
 difference-returns-5 t c =
     let e = c .before .before .before .before .before .before .before .before in
     settled _ (chain-stop-first (root-at t (e .before .before .before .before .before .before)) (told-parts _ _ (e .r .given .1) (e .before .before .before .before .split .ensures)) (λ n lt. told _ _ (c .enum-told2 .given .1) (c .before .before .before .before .difference .ensures)))
 
--- src/lib.rt:98:31
 difference-difference-requires-2 : (t : ℕ) → difference-lts.Need-difference-requires-2 (calls t) (difference-at t) difference.Post
 difference-difference-requires-2 t c κs =
     let f = c .before .before in
     let e = f .before .before .before .before .before .before .before .before in
     left-falls (chain-second (root-at t (e .before .before .before .before .before .before)) (told-parts _ _ (e .r .given .1) (e .before .before .before .before .split .ensures)) (λ n lt. told _ _ (f .new-left .given .1) (f .before .before .before .before .difference .ensures))) (e .before .before .before .before .before .before .before .before .before .before .before .before .pre .0)
 
--- src/lib.rt:98:18
 difference-enum-known-new-right : (t : ℕ) → difference-lts.Need-enum-known-new-right (calls t) (difference-at t) difference.Post
 difference-enum-known-new-right t c = search needs
 
--- src/lib.rt:99:9
 difference-enum-told-3 : (t : ℕ) → difference-lts.Need-enum-told-3 (calls t) (difference-at t) difference.Post
 difference-enum-told-3 t c = search needs
 
--- src/lib.rt:99:9
 difference-same-length-3 : (t : ℕ) → difference-lts.Need-same-length-3 (calls t) (difference-at t) difference.Post
 difference-same-length-3 t c = search needs
 
--- src/lib.rt:99:9
 difference-returns-6 : (t : ℕ) → difference-lts.Need-returns-6 (calls t) (difference-at t) difference.Post
 difference-returns-6 t c =
     let f = c .before .before .before .before .before .before .before in
     let e = f .before .before .before .before .before .before .before .before in
     settled _ (chain-stop-second (root-at t (e .before .before .before .before .before .before)) (told-parts _ _ (e .r .given .1) (e .before .before .before .before .split .ensures)) (λ n lt. told _ _ (f .new-left .given .1) (f .before .before .before .before .difference .ensures)) (λ n lt. told _ _ (c .enum-told3 .given .1) (c .before .before .before .before .difference2 .ensures)))
 
--- src/lib.rt:101:5
 difference-rest-requires : (t : ℕ) → difference-lts.Need-rest-requires (calls t) (difference-at t) difference.Post
 difference-rest-requires t c κs =
     let g = c .before .before in
@@ -145,11 +124,9 @@ difference-rest-requires t c κs =
     let e = f .before .before .before .before .before .before .before .before in
     chain-last (root-at t (e .before .before .before .before .before .before)) (told-parts _ _ (e .r .given .1) (e .before .before .before .before .split .ensures)) (λ n lt. told _ _ (f .new-left .given .1) (f .before .before .before .before .difference .ensures)) (λ n lt. told _ _ (g .new-right .given .1) (g .before .before .before .before .difference2 .ensures))
 
--- src/lib.rt:76:1
 difference-same-length-4 : (t : ℕ) → difference-lts.Need-same-length-4 (calls t) (difference-at t) difference.Post
 difference-same-length-4 t c = search needs
 
--- src/lib.rt:76:1
 difference-returns-7 : (t : ℕ) → difference-lts.Need-returns-7 (calls t) (difference-at t) difference.Post
 difference-returns-7 t c =
     let g = c .before .before .before .before .before in

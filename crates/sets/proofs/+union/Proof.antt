@@ -53,103 +53,81 @@ right-at t c =
     let s = c .before .before .before .before .before .before .before .before .before .before in
     right-chain (rooted (asks-turned (s .args .b .now) (s .args .left) (s .args .right) (s .pre .1)) (c .before .before .before .before .before .before .before .if2 .left) (c .before .before .before .before .before .before .before .before .if1 .left) (c .read2 .ensures)) _ (omega (arith, c .before .before .before .before .before .size-at .ensures, c .before .before .before .size-at2 .ensures, c .before .before .if3 .left))
 
--- src/lib.rt:29:9
 union-returns : (t : ℕ) → union-lts.Need-returns (calls t) (union-at t) union.Post
 union-returns t c = left-empty _ (c .before .before .pre .1) (c .if1 .taken)
 
--- src/lib.rt:32:9
 union-returns-2 : (t : ℕ) → union-lts.Need-returns-2 (calls t) (union-at t) union.Post
 union-returns-2 t c = right-empty _ (c .before .before .before .pre .1) (c .if2 .taken)
 
--- src/lib.rt:34:8
 union-size-at-requires : (t : ℕ) → union-lts.Need-size-at-requires (calls t) (union-at t) union.Post
 union-size-at-requires t c κs = let p = c .before .before .before .before .pre .1 in (p .0 .shaped, p .0 .linked, p .1)
 
--- src/lib.rt:34:28
 union-size-at-requires-2 : (t : ℕ) → union-lts.Need-size-at-requires-2 (calls t) (union-at t) union.Post
 union-size-at-requires-2 t c κs = let p = c .before .before .before .before .before .before .pre .1 in (p .0 .shaped, p .0 .linked, p .2)
 
--- src/lib.rt:35:13
 union-read-requires : (t : ℕ) → union-lts.Need-read-requires (calls t) (union-at t) union.Post
 union-read-requires t c κs =
     let p = c .before .before .before .before .before .before .before .before .before .pre .1 in
     read-asks _ (p .0) (link-occupied _ _ (p .1) (c .before .before .before .before .before .before .before .if1 .left))
 
--- src/lib.rt:36:31
 union-split-requires : (t : ℕ) → union-lts.Need-split-requires (calls t) (union-at t) union.Post
 union-split-requires t c κs = chain-asks (left-at t (c .before))
 
--- src/lib.rt:36:26
 union-enum-known-r : (t : ℕ) → union-lts.Need-enum-known-r (calls t) (union-at t) union.Post
 union-enum-known-r t c = search needs
 
--- src/lib.rt:37:13
 union-enum-told : (t : ℕ) → union-lts.Need-enum-told (calls t) (union-at t) union.Post
 union-enum-told t c = search needs
 
--- src/lib.rt:37:13
 union-same-length : (t : ℕ) → union-lts.Need-same-length (calls t) (union-at t) union.Post
 union-same-length t c = search needs
 
--- src/lib.rt:37:13
 union-returns-3 : (t : ℕ) → union-lts.Need-returns-3 (calls t) (union-at t) union.Post
 union-returns-3 t c = straight (chain-stop (left-at t (c .before .before .before .before .before .before)) (told-parts _ _ (c .enum-told .given .1) (c .before .before .before .before .split .ensures)))
 
--- src/lib.rt:40:13
 union-merge-left-requires : (t : ℕ) → union-lts.Need-merge-left-requires (calls t) (union-at t) union.Post
 union-merge-left-requires t c κs = search needs
 
--- src/lib.rt:41:34
 union-union-requires : (t : ℕ) → union-lts.Need-union-requires (calls t) (union-at t) union.Post
 union-union-requires t c κs =
     let e = c .before .before .before in
     left-asks (chain-first (left-at t (e .before .before .before .before .before .before)) (told-parts _ _ (e .r .given .1) (e .before .before .before .before .split .ensures))) (e .before .before .before .before .before .before .before .before .before .before .before .before .before .before .before .before .pre .0)
 
--- src/lib.rt:41:22
 union-enum-known-new-left : (t : ℕ) → union-lts.Need-enum-known-new-left (calls t) (union-at t) union.Post
 union-enum-known-new-left t c = search needs
 
--- src/lib.rt:42:13
 union-enum-told-2 : (t : ℕ) → union-lts.Need-enum-told-2 (calls t) (union-at t) union.Post
 union-enum-told-2 t c = search needs
 
--- src/lib.rt:42:13
 union-same-length-2 : (t : ℕ) → union-lts.Need-same-length-2 (calls t) (union-at t) union.Post
 union-same-length-2 t c = search needs
 
--- src/lib.rt:42:13
 union-returns-4 : (t : ℕ) → union-lts.Need-returns-4 (calls t) (union-at t) union.Post
 union-returns-4 t c =
     let e = c .before .before .before .before .before .before .before .before in
     straight (chain-stop-first (left-at t (e .before .before .before .before .before .before)) (told-parts _ _ (e .r .given .1) (e .before .before .before .before .split .ensures)) (told-union _ _ (c .enum-told2 .given .1) (c .before .before .before .before .union .ensures) .any))
 
--- src/lib.rt:44:35
 union-union-requires-2 : (t : ℕ) → union-lts.Need-union-requires-2 (calls t) (union-at t) union.Post
 union-union-requires-2 t c κs =
     let f = c .before .before in
     let e = f .before .before .before .before .before .before .before .before in
     left-asks (chain-second (left-at t (e .before .before .before .before .before .before)) (told-parts _ _ (e .r .given .1) (e .before .before .before .before .split .ensures)) (told-union _ _ (f .new-left .given .1) (f .before .before .before .before .union .ensures) .any)) (e .before .before .before .before .before .before .before .before .before .before .before .before .before .before .before .before .pre .0)
 
--- src/lib.rt:44:22
 union-enum-known-new-right : (t : ℕ) → union-lts.Need-enum-known-new-right (calls t) (union-at t) union.Post
 union-enum-known-new-right t c = search needs
 
--- src/lib.rt:45:13
 union-enum-told-3 : (t : ℕ) → union-lts.Need-enum-told-3 (calls t) (union-at t) union.Post
 union-enum-told-3 t c = search needs
 
--- src/lib.rt:45:13
 union-same-length-3 : (t : ℕ) → union-lts.Need-same-length-3 (calls t) (union-at t) union.Post
 union-same-length-3 t c = search needs
 
--- src/lib.rt:45:13
 union-returns-5 : (t : ℕ) → union-lts.Need-returns-5 (calls t) (union-at t) union.Post
 union-returns-5 t c =
     let f = c .before .before .before .before .before .before .before in
     let e = f .before .before .before .before .before .before .before .before in
     straight (chain-stop-second (left-at t (e .before .before .before .before .before .before)) (told-parts _ _ (e .r .given .1) (e .before .before .before .before .split .ensures)) (told-union _ _ (f .new-left .given .1) (f .before .before .before .before .union .ensures) .any) (told-union _ _ (c .enum-told3 .given .1) (c .before .before .before .before .union2 .ensures) .any))
 
--- src/lib.rt:47:9
 union-join-requires : (t : ℕ) → union-lts.Need-join-requires (calls t) (union-at t) union.Post
 union-join-requires t c κs =
     let g = c .before .before in
@@ -157,11 +135,9 @@ union-join-requires t c κs =
     let e = f .before .before .before .before .before .before .before .before in
     chain-last (left-at t (e .before .before .before .before .before .before)) (told-parts _ _ (e .r .given .1) (e .before .before .before .before .split .ensures)) (told-union _ _ (f .new-left .given .1) (f .before .before .before .before .union .ensures) .any) (told-union _ _ (g .new-right .given .1) (g .before .before .before .before .union2 .ensures) .any)
 
--- src/lib.rt:47:9
 union-same-length-4 : (t : ℕ) → union-lts.Need-same-length-4 (calls t) (union-at t) union.Post
 union-same-length-4 t c = search needs
 
--- src/lib.rt:47:9
 union-returns-6 : (t : ℕ) → union-lts.Need-returns-6 (calls t) (union-at t) union.Post
 union-returns-6 t c =
     let g = c .before .before .before .before .before in
@@ -169,87 +145,69 @@ union-returns-6 t c =
     let e = f .before .before .before .before .before .before .before .before in
     straight (chain-done (left-at t (e .before .before .before .before .before .before)) (told-parts _ _ (e .r .given .1) (e .before .before .before .before .split .ensures)) (told-union _ _ (f .new-left .given .1) (f .before .before .before .before .union .ensures) .any) (told-union _ _ (g .new-right .given .1) (g .before .before .before .before .union2 .ensures) .any) (with-value _ _ _ _ _ (f .before .before .before .before .before .before .merge-left .ensures) (c .before .before .join .ensures)))
 
--- src/lib.rt:49:9
 union-read-requires-2 : (t : ℕ) → union-lts.Need-read-requires-2 (calls t) (union-at t) union.Post
 union-read-requires-2 t c κs =
     let p = c .before .before .before .before .before .before .before .before .before .pre .1 in
     read-asks _ (p .0) (link-occupied _ _ (p .2) (c .before .before .before .before .before .before .if2 .left))
 
--- src/lib.rt:50:27
 union-split-requires-2 : (t : ℕ) → union-lts.Need-split-requires-2 (calls t) (union-at t) union.Post
 union-split-requires-2 t c κs = chain-asks (right-at t (c .before))
 
--- src/lib.rt:50:22
 union-enum-known-l : (t : ℕ) → union-lts.Need-enum-known-l (calls t) (union-at t) union.Post
 union-enum-known-l t c = search needs
 
--- src/lib.rt:51:9
 union-enum-told-4 : (t : ℕ) → union-lts.Need-enum-told-4 (calls t) (union-at t) union.Post
 union-enum-told-4 t c = search needs
 
--- src/lib.rt:51:9
 union-same-length-5 : (t : ℕ) → union-lts.Need-same-length-5 (calls t) (union-at t) union.Post
 union-same-length-5 t c = search needs
 
--- src/lib.rt:51:9
 union-returns-7 : (t : ℕ) → union-lts.Need-returns-7 (calls t) (union-at t) union.Post
 union-returns-7 t c = turn-back (chain-stop (right-at t (c .before .before .before .before .before .before)) (told-parts _ _ (c .enum-told4 .given .1) (c .before .before .before .before .split2 .ensures)))
 
--- src/lib.rt:54:9
 union-merge-right-requires : (t : ℕ) → union-lts.Need-merge-right-requires (calls t) (union-at t) union.Post
 union-merge-right-requires t c κs = search needs
 
--- src/lib.rt:55:30
 union-union-requires-3 : (t : ℕ) → union-lts.Need-union-requires-3 (calls t) (union-at t) union.Post
 union-union-requires-3 t c κs =
     let e = c .before .before .before in
     right-asks (chain-first (right-at t (e .before .before .before .before .before .before)) (told-parts _ _ (e .l .given .1) (e .before .before .before .before .split2 .ensures))) (e .before .before .before .before .before .before .before .before .before .before .before .before .before .before .before .before .pre .0)
 
--- src/lib.rt:55:18
 union-enum-known-new-left-2 : (t : ℕ) → union-lts.Need-enum-known-new-left-2 (calls t) (union-at t) union.Post
 union-enum-known-new-left-2 t c = search needs
 
--- src/lib.rt:56:9
 union-enum-told-5 : (t : ℕ) → union-lts.Need-enum-told-5 (calls t) (union-at t) union.Post
 union-enum-told-5 t c = search needs
 
--- src/lib.rt:56:9
 union-same-length-6 : (t : ℕ) → union-lts.Need-same-length-6 (calls t) (union-at t) union.Post
 union-same-length-6 t c = search needs
 
--- src/lib.rt:56:9
 union-returns-8 : (t : ℕ) → union-lts.Need-returns-8 (calls t) (union-at t) union.Post
 union-returns-8 t c =
     let e = c .before .before .before .before .before .before .before .before in
     turn-back (chain-stop-first (right-at t (e .before .before .before .before .before .before)) (told-parts _ _ (e .l .given .1) (e .before .before .before .before .split2 .ensures)) (turn (told-union _ _ (c .enum-told5 .given .1) (c .before .before .before .before .union3 .ensures))))
 
--- src/lib.rt:58:31
 union-union-requires-4 : (t : ℕ) → union-lts.Need-union-requires-4 (calls t) (union-at t) union.Post
 union-union-requires-4 t c κs =
     let f = c .before .before in
     let e = f .before .before .before .before .before .before .before .before in
     right-asks (chain-second (right-at t (e .before .before .before .before .before .before)) (told-parts _ _ (e .l .given .1) (e .before .before .before .before .split2 .ensures)) (turn (told-union _ _ (f .new-left2 .given .1) (f .before .before .before .before .union3 .ensures)))) (e .before .before .before .before .before .before .before .before .before .before .before .before .before .before .before .before .pre .0)
 
--- src/lib.rt:58:18
 union-enum-known-new-right-2 : (t : ℕ) → union-lts.Need-enum-known-new-right-2 (calls t) (union-at t) union.Post
 union-enum-known-new-right-2 t c = search needs
 
--- src/lib.rt:59:9
 union-enum-told-6 : (t : ℕ) → union-lts.Need-enum-told-6 (calls t) (union-at t) union.Post
 union-enum-told-6 t c = search needs
 
--- src/lib.rt:59:9
 union-same-length-7 : (t : ℕ) → union-lts.Need-same-length-7 (calls t) (union-at t) union.Post
 union-same-length-7 t c = search needs
 
--- src/lib.rt:59:9
 union-returns-9 : (t : ℕ) → union-lts.Need-returns-9 (calls t) (union-at t) union.Post
 union-returns-9 t c =
     let f = c .before .before .before .before .before .before .before in
     let e = f .before .before .before .before .before .before .before .before in
     turn-back (chain-stop-second (right-at t (e .before .before .before .before .before .before)) (told-parts _ _ (e .l .given .1) (e .before .before .before .before .split2 .ensures)) (turn (told-union _ _ (f .new-left2 .given .1) (f .before .before .before .before .union3 .ensures))) (turn (told-union _ _ (c .enum-told6 .given .1) (c .before .before .before .before .union4 .ensures))))
 
--- src/lib.rt:61:5
 union-join-requires-2 : (t : ℕ) → union-lts.Need-join-requires-2 (calls t) (union-at t) union.Post
 union-join-requires-2 t c κs =
     let g = c .before .before in
@@ -257,11 +215,9 @@ union-join-requires-2 t c κs =
     let e = f .before .before .before .before .before .before .before .before in
     chain-last (right-at t (e .before .before .before .before .before .before)) (told-parts _ _ (e .l .given .1) (e .before .before .before .before .split2 .ensures)) (turn (told-union _ _ (f .new-left2 .given .1) (f .before .before .before .before .union3 .ensures))) (turn (told-union _ _ (g .new-right2 .given .1) (g .before .before .before .before .union4 .ensures)))
 
--- src/lib.rt:24:1
 union-same-length-8 : (t : ℕ) → union-lts.Need-same-length-8 (calls t) (union-at t) union.Post
 union-same-length-8 t c = search needs
 
--- src/lib.rt:24:1
 union-returns-10 : (t : ℕ) → union-lts.Need-returns-10 (calls t) (union-at t) union.Post
 union-returns-10 t c =
     let g = c .before .before .before .before .before in

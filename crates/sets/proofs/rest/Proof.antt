@@ -4,35 +4,27 @@ use Rattle.sets.proofs.rest.Statement.{statement}
 use Rattle.sets.proofs.rest.Tie as tie
 use Rattle.sets.proofs.Differing.{by-join, by-without}
 
--- src/lib.rt:70:22
 enum-known-stays : tie.Need-enum-known-stays
 enum-known-stays c = search needs
 
--- src/lib.rt:70:32
 join-requires : tie.Need-join-requires
 join-requires c κs = search needs
 
--- src/lib.rt:71:38
 enum-told : tie.Need-enum-told
 enum-told c = search needs
 
--- src/lib.rt:71:26
 without-key-requires : tie.Need-without-key-requires
 without-key-requires c κs = search needs
 
--- src/lib.rt:65:1
 same-length : tie.Need-same-length
 same-length c = search needs
 
--- src/lib.rt:65:1
 returns : tie.Need-returns
 returns c = by-join _ _ _ _ _ (c .before .before .before .before .before .stays .given .1) (c .before .before .join .ensures)
 
--- src/lib.rt:65:1
 same-length-2 : tie.Need-same-length-2
 same-length-2 c = search needs
 
--- src/lib.rt:65:1
 returns-2 : tie.Need-returns-2
 returns-2 c = by-without _ _ _ _ (c .before .before .before .before .enum-told .given .1) (c .before .before .without-key .ensures)
 

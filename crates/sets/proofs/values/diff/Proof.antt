@@ -4,31 +4,24 @@ use Rattle.sets.proofs.values.diff.Statement.{statement}
 use Rattle.sets.proofs.values.diff.Tie as tie
 use Rattle.sets.proofs.ByRule.{drops, drops-equal, stays-unequal, stays, minus-larger, minus-drops}
 
--- src/values.rt:54:9
 returns : tie.Need-returns
 returns c = drops _ _ _ (c .if1 .taken)
 
--- src/values.rt:58:13
 returns-2 : tie.Need-returns-2
 returns-2 c = drops-equal _ _ _ (c .before .if2 .taken) (c .if3 .taken)
 
--- src/values.rt:60:9
 returns-3 : tie.Need-returns-3
 returns-3 c = stays-unequal _ _ _ (c .before .if2 .taken) (c .if3 .left)
 
--- src/values.rt:63:9
 returns-4 : tie.Need-returns-4
 returns-4 c = stays _ _ _ (c .if4 .taken)
 
--- src/values.rt:66:29
 sub-t6 : tie.Need-sub-t6
 sub-t6 c = search needs
 
--- src/values.rt:66:9
 returns-5 : tie.Need-returns-5
 returns-5 c = minus-larger _ _ _ (c .before .before .before .if1 .left) (c .before .before .if2 .left) (c .before .if4 .left) (c .if5 .taken)
 
--- src/values.rt:50:1
 returns-6 : tie.Need-returns-6
 returns-6 c = minus-drops _ _ _ (c .before .before .before .if1 .left) (c .before .before .if2 .left) (c .before .if4 .left) (c .if5 .left)
 

@@ -6,23 +6,18 @@ use mathlib.Core.Path.{ap, sym, _∙_}
 use Rattle.model.specs.Rules.{kept, diffBy}
 use Rattle.block.specs.Outcome.{answer}
 
--- src/values.rt:76:22
 enum-known-right : tie.Need-enum-known-right
 enum-known-right c = search needs
 
--- src/values.rt:76:28
 diff-requires : tie.Need-diff-requires
 diff-requires c κs = search needs
 
--- src/values.rt:77:26
 enum-told : tie.Need-enum-told
 enum-told c = search needs
 
--- src/values.rt:72:1
 returns : tie.Need-returns
 returns c = c .diff .ensures ∙ ap (λ z. kept (diffBy (c .before .before .before .before .args .rule)) (c .before .before .before .before .args .x) (answer z)) (sym (c .before .before .right .given .1))
 
--- src/values.rt:72:1
 returns-2 : tie.Need-returns-2
 returns-2 c = ap (λ z. kept (diffBy (c .before .before .args .rule)) (c .before .before .args .x) (answer z)) (sym (c .enum-told .given .1))
 

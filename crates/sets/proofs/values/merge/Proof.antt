@@ -4,43 +4,33 @@ use Rattle.sets.proofs.values.merge.Statement.{statement}
 use Rattle.sets.proofs.values.merge.Tie as tie
 use Rattle.sets.proofs.ByRule.{takes-left, takes-right, left-smaller, right-smaller, right-larger, left-larger, sum-held, sum-whole}
 
--- src/values.rt:12:9
 returns : tie.Need-returns
 returns c = takes-left _ _ _ (c .if1 .taken)
 
--- src/values.rt:15:9
 returns-2 : tie.Need-returns-2
 returns-2 c = takes-right _ _ _ (c .if2 .taken)
 
--- src/values.rt:18:9
 returns-3 : tie.Need-returns-3
 returns-3 c = left-smaller _ _ _ (c .before .if3 .taken) (c .if4 .taken)
 
--- src/values.rt:18:9
 returns-4 : tie.Need-returns-4
 returns-4 c = right-smaller _ _ _ (c .before .if3 .taken) (c .if4 .left)
 
--- src/values.rt:21:9
 returns-5 : tie.Need-returns-5
 returns-5 c = right-larger _ _ _ (c .before .if5 .taken) (c .if6 .taken)
 
--- src/values.rt:21:9
 returns-6 : tie.Need-returns-6
 returns-6 c = left-larger _ _ _ (c .before .if5 .taken) (c .if6 .left)
 
--- src/values.rt:23:8
 sub-if7 : tie.Need-sub-if7
 sub-if7 c = search needs
 
--- src/values.rt:24:9
 returns-7 : tie.Need-returns-7
 returns-7 c = sum-held _ _ _ (c .before .before .before .before .if1 .left) (c .before .before .before .if2 .left) (c .before .before .if3 .left) (c .before .if5 .left) (search needs) (c .if7 .taken)
 
--- src/values.rt:26:5
 add-result : tie.Need-add-result
 add-result c = search needs
 
--- src/values.rt:8:1
 returns-8 : tie.Need-returns-8
 returns-8 c = sum-whole _ _ _ (c .before .before .before .before .if1 .left) (c .before .before .before .if2 .left) (c .before .before .if3 .left) (c .before .if5 .left) (search needs) (c .if7 .left)
 

@@ -6,23 +6,18 @@ use mathlib.Core.Path.{ap, sym, _∙_}
 use Rattle.model.specs.Rules.{mergedLeft, mergeBy}
 use Rattle.block.specs.Outcome.{answer}
 
--- src/values.rt:34:22
 enum-known-right : tie.Need-enum-known-right
 enum-known-right c = search needs
 
--- src/values.rt:34:28
 merge-requires : tie.Need-merge-requires
 merge-requires c κs = search needs
 
--- src/values.rt:35:26
 enum-told : tie.Need-enum-told
 enum-told c = search needs
 
--- src/values.rt:30:1
 returns : tie.Need-returns
 returns c = c .merge .ensures ∙ ap (λ z. mergedLeft (mergeBy (c .before .before .before .before .args .rule)) (c .before .before .before .before .args .x) (answer z)) (sym (c .before .before .right .given .1))
 
--- src/values.rt:30:1
 returns-2 : tie.Need-returns-2
 returns-2 c = search needs
 

@@ -6,23 +6,18 @@ use mathlib.Core.Path.{ap, sym, _∙_}
 use Rattle.model.specs.Rules.{mergedRight, mergeBy}
 use Rattle.block.specs.Outcome.{answer}
 
--- src/values.rt:44:22
 enum-known-left : tie.Need-enum-known-left
 enum-known-left c = search needs
 
--- src/values.rt:44:28
 merge-requires : tie.Need-merge-requires
 merge-requires c κs = search needs
 
--- src/values.rt:45:26
 enum-told : tie.Need-enum-told
 enum-told c = search needs
 
--- src/values.rt:40:1
 returns : tie.Need-returns
 returns c = c .merge .ensures ∙ ap (λ z. mergedRight (mergeBy (c .before .before .before .before .args .rule)) (answer z) (c .before .before .before .before .args .y)) (sym (c .before .before .left .given .1))
 
--- src/values.rt:40:1
 returns-2 : tie.Need-returns-2
 returns-2 c = search needs
 
