@@ -1,43 +1,48 @@
+-- Tests, lists and maps
 pub mod Compare
+pub mod Tests
+pub mod Tells
+pub mod Members
+pub mod Sorts
+pub mod Finds
+pub mod Maps
+-- The rules against plain maps
 pub mod Entries
 pub mod Joins
-pub mod Loads
-pub mod Counts
-pub mod Reach
-pub mod Unique
-pub mod Steps
-pub mod Giving
-pub mod Sorts
 pub mod Edits
-pub mod Finds
+pub mod Sizes
 pub mod Unions
 pub mod Differences
 pub mod Orders
-pub mod Versions
-pub mod Cases
-pub mod Words
-pub mod Lookups
 pub mod Keeping
-pub mod Cancel
-pub mod Bound
-pub mod Pinned
-pub mod Once
-pub mod Meanings
-pub mod Bits
-pub mod Giveups
 pub mod Steady
+pub mod Cancel
+pub mod Cases
+-- Heaps, and the block that is one
+pub mod Loads
+pub mod Counts
+pub mod Reach
+pub mod Bound
+pub mod Lookups
+pub mod Words
+pub mod Bits
+pub mod Unique
+pub mod Pinned
+pub mod Versions
+-- How a call goes
+pub mod Steps
+pub mod Giving
+pub mod Giveups
 pub mod Growing
+pub mod Ends
+-- Listing and delta
 pub mod Turns
 pub mod Rows
 pub mod Listings
-pub mod Members
 pub mod Picks
 pub mod Deltas
 pub mod DeltaRoom
-pub mod Tests
-pub mod Tells
-pub mod Checks
-pub mod Maps
+-- Frames, inbox, replica
 pub mod Digits
 pub mod Lines
 pub mod Frames
@@ -48,5 +53,7 @@ pub mod Replicas
 pub mod Demand
 pub mod Receiving
 pub mod Standbys
-pub mod Sizes
-pub mod Ends
+-- The calls
+pub mod Checks
+pub mod Once
+pub mod Meanings
