@@ -35,7 +35,7 @@ impl Fuel {
     }
 }
 
-const CALLS: usize = 600;
+const CALLS: usize = 800;
 
 /// Six versions of at most 48 keys: a block of N = 2,048 has room for every call.
 const VERSIONS: usize = 6;
@@ -68,18 +68,18 @@ fn source(random: &mut Random, dest: u32) -> u32 {
     }
 }
 
-/// Inserts and unions lead, so that trees grow.
+/// Inserts and unions outdo removes and differences, so that trees grow.
 fn draw(random: &mut Random) -> Call {
     let dest = version(random);
     match random.below(32) {
         0..=13 => Call::Insert { dest, source: source(random, dest), key: key(random), value: value(random) },
-        14..=17 => Call::Remove { dest, source: source(random, dest), key: key(random) },
-        18 => Call::Copy { dest, source: version(random) },
-        19 if random.once_in(4) => Call::Clear { version: dest },
-        19..=22 => Call::Union { dest, left: version(random), right: version(random), rule: random.below(5) as u32 },
-        23..=25 => difference(random, dest),
-        26 | 27 => Call::List { left: dest, right: version(random), start: 0, room: 0 },
-        28..=30 => Call::Lookup { version: dest, key: key(random) },
+        14..=20 => Call::Remove { dest, source: source(random, dest), key: key(random) },
+        21 if random.once_in(2) => Call::Copy { dest, source: version(random) },
+        21 if random.once_in(4) => Call::Clear { version: dest },
+        21..=24 => Call::Union { dest, left: version(random), right: version(random), rule: random.below(5) as u32 },
+        25..=27 => difference(random, dest),
+        28 => Call::List { left: dest, right: version(random), start: 0, room: 0 },
+        29 | 30 => Call::Lookup { version: dest, key: key(random) },
         _ => Call::Size { version: dest },
     }
 }
@@ -151,8 +151,8 @@ fn answer(maps: &mut [Map], call: &Call) -> String {
             if matches!(call, Call::Insert { .. } | Call::Remove { .. }) {
                 text += &format!(" {}", or_dash(old));
             }
-            let dest = if let Call::Clear { version } = *call { version } else { fields(call)[1] };
-            tree(look::root(&maps[dest as usize]), &mut text);
+            let dest = fields(call)[1] as usize;
+            tree(look::root(&maps[dest]), &mut text);
         }
     }
     text + "\n"
@@ -162,9 +162,7 @@ fn answer(maps: &mut [Map], call: &Call) -> String {
 fn kind(call: &Call) -> String {
     match *call {
         Call::Union { rule, .. } => format!("union by {rule}"),
-        Call::Difference { rule, cancel, .. } => {
-            format!("difference by {rule}{}", [" ", " cancelling "][cancel as usize].trim_end())
-        }
+        Call::Difference { rule, cancel, .. } => format!("difference by {rule}{}", ["", " cancelling"][cancel as usize]),
         _ => name(call).to_string(),
     }
 }

@@ -1,5 +1,5 @@
 // Replays a stored sample of the original's answers, so that a check without Rust compares the table with the original.
-// `oracle/sample 71` drew the 600 calls (stdin), did them on the original Rust maps and wrote down what those answered (stdout).
+// `oracle/sample 1192` drew the 800 calls (stdin), did them on the original Rust maps and wrote down what those answered (stdout).
 // A call is six numbers: call, destination, left, right, key or rule, value or cancel, with 0 for what it does not have.
 // An answer is the call's name and: a value or a dash; a size; a listing's rows, key:left:right with a dash for no right;
 // and after an edit the destination's tree as the original has it, key:value:size, top first and left before right.
