@@ -1,0 +1,144 @@
+-- Lines heard one after the other, while their bytes come in.
+use mathlib.Core.Path.{_≡_, refl, ap, sym, subst, _∙_}
+use mathlib.Core.Logic.{_≢_}
+use Prim.Native.Nat.{ℕ, suc, _+_, _<_, _≤_}
+use mathlib.Core.Bool.{Bool, true, false}
+use mathlib.Core.Option.{Option, none, some}
+use mathlib.Core.List.{List, [], _∷_, _++_}
+use lib.ListN.{length, getD, take, drop, drop-of-length-le}
+use lib.Seq.{drop-cons}
+use borrow.Author.Tests.{eq-eqb, ne-eqb}
+use lib.Dec.{eqb}
+use native.Mathlib.Omega.{arith}
+use Rattle.model.specs.Frame.{Frame, parse}
+use Rattle.model.specs.Inbox.{begun}
+use Rattle.model.specs.Link.{Parse, Begin, Heard, Receive, Hearing, still, then}
+use Rattle.model.specs.Calls.{fails, passes}
+use Rattle.receive.specs.Lines.{linesOf, restOf, Keeps, State, Fed, Runs, idle, waits, begins, hears}
+use Rattle.receive.proofs.Keeping.{first-36, keeps-none}
+
+-- no line
+runs-none : (b x : List ℕ) (g : Bool) → Runs b x g [] b x g
+runs-none b x true = hears still
+runs-none b x false = idle
+
+hearing-then : {b x c y d z line : List ℕ} {lines : List (List ℕ)} → Hearing 0 b x (line ∷ []) c y → Hearing 0 c y lines d z → Hearing 0 b x (line ∷ lines) d z
+hearing-then (then a r still) later = then a r later
+
+-- a line, and then the others
+runs-then : {b x c y d z line : List ℕ} {g h k : Bool} {lines : List (List ℕ)} → Runs b x g (line ∷ []) c y h → Runs c y h lines d z k → Runs b x g (line ∷ lines) d z k
+runs-then (hears one) (hears later) = hears (hearing-then one later)
+runs-then (waits e idle) later = waits e later
+runs-then (begins f e one) (hears later) = begins f e (hearing-then one later)
+
+-- a line once a batch has begun
+pub runs-hears : {b x c y : List ℕ} {g : Bool} (line : List ℕ) (a : Heard) → g ≡ true → Receive (record { block = b; inbox = x; block′ = c; inbox′ = y; answer = a }) 0 line → Runs b x g (line ∷ []) c y true
+runs-hears line a e r = rw e (hears (then a r still))
+
+-- before that, a malformed line
+pub runs-waits : {b x : List ℕ} {g : Bool} {n : ℕ} (f : Frame) (line : List ℕ) → g ≡ false → Parse (parse line) n f → n ≢ 0 → Runs b x g (line ∷ []) b x false
+runs-waits {n = n} f line e P ne = rw e (waits (said (parse line) P) idle)
+  where
+    said : (o : Option Frame) → Parse o n f → o ≡ none
+    said none P = refl
+    said (some h) P = absurd (ne (P .0))
+
+-- and the first that is well formed
+pub runs-begins : {b x z c y : List ℕ} {g : Bool} {n m : ℕ} (f : Frame) (line : List ℕ) (a : Heard) → g ≡ false → Parse (parse line) n f → n ≡ 0 → length x ≡ 130 → Begin x z (f .batch) m → Receive (record { block = b; inbox = z; block′ = c; inbox′ = y; answer = a }) 0 line → Runs b x g (line ∷ []) c y true
+runs-begins {b = b} {x = x} {z = z} {c = c} {y = y} {n = n} {m = m} f line a e P zero-n long B r = rw e (begins f (said (parse line) P) (then a (subst (λ (w : List ℕ). Receive (record { block = b; inbox = w; block′ = c; inbox′ = y; answer = a }) 0 line) (new B) r) still))
+  where
+    said : (o : Option Frame) → Parse o n f → o ≡ some f
+    said none P = absurd (let q = P .0 in omega (arith, q, zero-n))
+    said (some h) P = ap some (sym (P .1))
+
+    new : Begin x z (f .batch) m → z ≡ begun (f .batch)
+    new (fails n _) = absurd (n long)
+    new (passes _ p) = p .1
+
+-- what is heard of a line is what it says
+hearing-says : {b x c y : List ℕ} (l m : List ℕ) → parse l ≡ parse m → Hearing 0 b x (l ∷ []) c y → Hearing 0 b x (m ∷ []) c y
+hearing-says {b = b} {x = x} {c = c} {y = y} l m e (then a r still) = then {b = b} {x = x} {b′ = c} {x′ = y} {line = m} a (rw (sym e) r) still
+
+runs-says : {b x c y : List ℕ} {g h : Bool} (l m : List ℕ) → parse l ≡ parse m → Runs b x g (l ∷ []) c y h → Runs b x g (m ∷ []) c y h
+runs-says l m e (hears one) = hears (hearing-says l m e one)
+runs-says l m e (waits p idle) = waits (sym e ∙ p) idle
+runs-says l m e (begins f p one) = begins f (sym e ∙ p) (hearing-says l m e one)
+
+-- lines heard from one state to another
+abbrev pub RunsTo : State → List (List ℕ) → State → Type 0
+RunsTo s lines t = Runs (s .block) (s .inbox) (s .started) lines (t .block) (t .inbox) (t .started)
+
+-- on the way from s, at t: with the lines of what is still to come, the lines are those of the start
+pub record Going (s : State) (lines : List (List ℕ)) (rest : List ℕ) (t : State) (bytes : List ℕ) : Type 0 where
+  pub held : List ℕ
+  pub keeps : Keeps (t .line) (t .len) held
+  pub runs : (u : State) → RunsTo t (linesOf held bytes) u → RunsTo s lines u
+  pub left : restOf held bytes ≡ rest
+
+-- a byte that ends no line
+going-byte : {s t : State} {lines : List (List ℕ)} {rest line bytes : List ℕ} {len byte : ℕ} → Going s lines rest t (byte ∷ bytes) → ((held : List ℕ) → Keeps (t .line) (t .len) held → Keeps line len (held ++ byte ∷ []))
+    → eqb byte 10 ≡ false → Going s lines rest (record { block = t .block; inbox = t .inbox; started = t .started; line = line; len = len }) bytes
+unfolding linesOf restOf
+going-byte {byte = byte} G K e = record {
+  held = G .held ++ byte ∷ [];
+  keeps = K (G .held) (G .keeps);
+  runs = λ u r. G .runs u (rw (e, linesOf) r);
+  left = sym (rw (e, restOf) refl) ∙ G .left;
+}
+
+-- a newline: what is kept is heard, and nothing is held
+going-line : {s t u : State} {lines : List (List ℕ)} {rest bytes : List ℕ} {len byte : ℕ} → Going s lines rest t (byte ∷ bytes) → ((held : List ℕ) → Keeps (t .line) (t .len) held → Keeps (u .line) len (held ++ byte ∷ []))
+    → eqb byte 10 ≡ true → u .len ≡ 0 → RunsTo t (take len (u .line) ∷ []) u → Going s lines rest u bytes
+unfolding linesOf restOf
+going-line {u = u} {len = len} {byte = byte} G K e z one =
+    let whole = G .held ++ byte ∷ [] in
+    let said : parse (take len (u .line)) ≡ parse whole = ap parse (K (G .held) (G .keeps) .bytes) ∙ first-36 whole in
+    record {
+      held = [];
+      keeps = rw z (keeps-none whole (K (G .held) (G .keeps)));
+      runs = λ v r. G .runs v (rw (e, linesOf) (runs-then (runs-says (take len (u .line)) whole said one) r));
+      left = sym (rw (e, restOf) refl) ∙ G .left;
+    }
+
+-- after i bytes, whatever was held
+pub record Feeding (s : State) (bytes : List ℕ) (t : State) (i : ℕ) : Type 0 where
+  pub block-long : length (t .block) ≡ length (s .block)
+  pub inbox-long : length (t .inbox) ≡ length (s .inbox)
+  pub short : t .len ≤ 36
+  pub going : (held : List ℕ) → Keeps (s .line) (s .len) held → Going s (linesOf held bytes) (restOf held bytes) t (drop i bytes)
+
+pub feeding-none : (s : State) (bytes : List ℕ) → s .len ≤ 36 → Feeding s bytes s 0
+feeding-none s bytes short = record { block-long = refl; inbox-long = refl; short = short; going = λ held k. record { held = held; keeps = k; runs = λ u r. r; left = refl } }
+
+-- what keep does with byte i
+abbrev pub Kept : State → (bytes : List ℕ) (i : ℕ) (line : List ℕ) (len : ℕ) → Type 0
+Kept t bytes i line len = (len ≤ 36) × ((held : List ℕ) → Keeps (t .line) (t .len) held → Keeps line len (held ++ getD bytes i 0 ∷ []))
+
+next : (bytes : List ℕ) (i : ℕ) → i < length bytes → drop i bytes ≡ getD bytes i 0 ∷ drop (i + 1) bytes
+next bytes i lt = let e : suc i ≡ i + 1 = omega arith in drop-cons bytes i 0 lt ∙ ap (λ (j : ℕ). getD bytes i 0 ∷ drop j bytes) e
+
+pub feeding-byte : {s t : State} {bytes line : List ℕ} {len i : ℕ} → Feeding s bytes t i → i < length bytes → Kept t bytes i line len → getD bytes i 0 ≢ 10
+    → Feeding s bytes (record { block = t .block; inbox = t .inbox; started = t .started; line = line; len = len }) (i + 1)
+feeding-byte {s = s} {t = t} {bytes = bytes} {i = i} F lt K ne = record {
+  block-long = F .block-long;
+  inbox-long = F .inbox-long;
+  short = K .0;
+  going = λ held k. going-byte (subst (Going s (linesOf held bytes) (restOf held bytes) t) (next bytes i lt) (F .going held k)) (K .1) (ne-eqb _ _ ne);
+}
+
+pub feeding-line : {s t : State} {bytes b x line : List ℕ} {g : Bool} {len i : ℕ} → Feeding s bytes t i → i < length bytes → Kept t bytes i line len → getD bytes i 0 ≡ 10
+    → length b ≡ length (s .block) → length x ≡ length (s .inbox) → Runs (t .block) (t .inbox) (t .started) (take len line ∷ []) b x g
+    → Feeding s bytes (record { block = b; inbox = x; started = g; line = line; len = 0 }) (i + 1)
+feeding-line {s = s} {t = t} {bytes = bytes} {i = i} F lt K e hb hx one = record {
+  block-long = hb;
+  inbox-long = hx;
+  short = omega arith;
+  going = λ held k. going-line (subst (Going s (linesOf held bytes) (restOf held bytes) t) (next bytes i lt) (F .going held k)) (K .1) (eq-eqb _ _ e) refl one;
+}
+
+-- all bytes have come
+pub feeding-all : {s t : State} {bytes : List ℕ} {i : ℕ} → Feeding s bytes t i → length bytes ≤ i → Fed s bytes t
+unfolding Fed linesOf restOf
+feeding-all {s = s} {t = t} {bytes = bytes} {i = i} F le held k =
+    let G : Going s (linesOf held bytes) (restOf held bytes) t [] = subst (Going s (linesOf held bytes) (restOf held bytes) t) (drop-of-length-le bytes le) (F .going held k) in
+    (G .runs t (runs-none (t .block) (t .inbox) (t .started)), subst (Keeps (t .line) (t .len)) (G .left) (G .keeps))
