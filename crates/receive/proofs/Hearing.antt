@@ -14,7 +14,7 @@ use Rattle.model.specs.Frame.{Frame, parse}
 use Rattle.model.specs.Inbox.{begun}
 use Rattle.model.specs.Link.{Parse, Begin, Heard, Receive, Hearing, still, then}
 use Rattle.model.specs.Calls.{fails, passes}
-use Rattle.receive.specs.Lines.{linesOf, restOf, Keeps, State, Fed, Runs, idle, waits, begins, hears}
+use Rattle.receive.specs.Lines.{linesOf, restOf, Keeps, State, Fed, FedSome, HearsSome, Runs, idle, waits, begins, hears}
 use Rattle.receive.proofs.Keeping.{first-36, keeps-none}
 
 -- no line
@@ -22,14 +22,16 @@ runs-none : (b x : List ℕ) (g : Bool) → Runs b x g [] b x g
 runs-none b x true = hears still
 runs-none b x false = idle
 
-hearing-then : {b x c y d z line : List ℕ} {lines : List (List ℕ)} → Hearing 0 b x (line ∷ []) c y → Hearing 0 c y lines d z → Hearing 0 b x (line ∷ lines) d z
-hearing-then (then a r still) later = then a r later
+hearing-then : {b x c y d z : List ℕ} {ls ms : List (List ℕ)} → Hearing 0 b x ls c y → Hearing 0 c y ms d z → Hearing 0 b x (ls ++ ms) d z
+hearing-then still later = later
+hearing-then (then a r one) later = then a r (hearing-then one later)
 
--- a line, and then the others
-runs-then : {b x c y d z line : List ℕ} {g h k : Bool} {lines : List (List ℕ)} → Runs b x g (line ∷ []) c y h → Runs c y h lines d z k → Runs b x g (line ∷ lines) d z k
-runs-then (hears one) (hears later) = hears (hearing-then one later)
-runs-then (waits e idle) later = waits e later
+-- lines, and then others
+runs-then : {b x c y d z : List ℕ} {g h k : Bool} {ls ms : List (List ℕ)} → Runs b x g ls c y h → Runs c y h ms d z k → Runs b x g (ls ++ ms) d z k
+runs-then idle later = later
+runs-then (waits e one) later = waits e (runs-then one later)
 runs-then (begins f e one) (hears later) = begins f e (hearing-then one later)
+runs-then (hears one) (hears later) = hears (hearing-then one later)
 
 -- a line once a batch has begun
 pub runs-hears : {b x c y : List ℕ} {g : Bool} (line : List ℕ) (a : Heard) → g ≡ true → Receive (record { block = b; inbox = x; block′ = c; inbox′ = y; answer = a }) 0 line → Runs b x g (line ∷ []) c y true
@@ -138,7 +140,50 @@ feeding-line {s = s} {t = t} {bytes = bytes} {i = i} F lt K e hb hx one = record
 
 -- all bytes have come
 pub feeding-all : {s t : State} {bytes : List ℕ} {i : ℕ} → Feeding s bytes t i → length bytes ≤ i → Fed s bytes t
-unfolding Fed linesOf restOf
-feeding-all {s = s} {t = t} {bytes = bytes} {i = i} F le held k =
-    let G : Going s (linesOf held bytes) (restOf held bytes) t [] = subst (Going s (linesOf held bytes) (restOf held bytes) t) (drop-of-length-le bytes le) (F .going held k) in
-    (G .runs t (runs-none (t .block) (t .inbox) (t .started)), subst (Keeps (t .line) (t .len)) (G .left) (G .keeps))
+unfolding linesOf restOf
+feeding-all {s = s} {t = t} {bytes = bytes} {i = i} F le = record {
+  heard = λ held k. gone held k .runs t (runs-none (t .block) (t .inbox) (t .started));
+  rest = λ held k. subst (Keeps (t .line) (t .len)) (gone held k .left) (gone held k .keeps);
+}
+  where
+    gone : (held : List ℕ) → Keeps (s .line) (s .len) held → Going s (linesOf held bytes) (restOf held bytes) t []
+    gone held k = subst (Going s (linesOf held bytes) (restOf held bytes) t) (drop-of-length-le bytes le) (F .going held k)
+
+-- Bytes fed in pieces are as those fed at once.
+
+lines-append : (held xs ys : List ℕ) → linesOf held (xs ++ ys) ≡ linesOf held xs ++ linesOf (restOf held xs) ys
+unfolding linesOf restOf
+lines-append held [] ys = refl
+lines-append held (c ∷ cs) ys = go (eqb c 10) refl (lines-append [] cs ys) (lines-append (held ++ c ∷ []) cs ys)
+  where
+    go : (b : Bool) → eqb c 10 ≡ b → linesOf [] (cs ++ ys) ≡ linesOf [] cs ++ linesOf (restOf [] cs) ys
+        → linesOf (held ++ c ∷ []) (cs ++ ys) ≡ linesOf (held ++ c ∷ []) cs ++ linesOf (restOf (held ++ c ∷ []) cs) ys
+        → linesOf held ((c ∷ cs) ++ ys) ≡ linesOf held (c ∷ cs) ++ linesOf (restOf held (c ∷ cs)) ys
+    go true e ended on = rw (e, linesOf, restOf) (ap (λ ls. (held ++ c ∷ []) ∷ ls) ended)
+    go false e ended on = rw (e, linesOf, restOf) on
+
+rest-append : (held xs ys : List ℕ) → restOf held (xs ++ ys) ≡ restOf (restOf held xs) ys
+unfolding restOf
+rest-append held [] ys = refl
+rest-append held (c ∷ cs) ys = go (eqb c 10) refl (rest-append [] cs ys) (rest-append (held ++ c ∷ []) cs ys)
+  where
+    go : (b : Bool) → eqb c 10 ≡ b → restOf [] (cs ++ ys) ≡ restOf (restOf [] cs) ys → restOf (held ++ c ∷ []) (cs ++ ys) ≡ restOf (restOf (held ++ c ∷ []) cs) ys → restOf held ((c ∷ cs) ++ ys) ≡ restOf (restOf held (c ∷ cs)) ys
+    go true e ended on = rw (e, restOf) ended
+    go false e ended on = rw (e, restOf) on
+
+pub fed-none : (s : State) → FedSome s s
+unfolding linesOf restOf
+fed-none s = ([], record { heard = λ held k. runs-none (s .block) (s .inbox) (s .started); rest = λ held k. k })
+
+pub fed-then : {s t u : State} → FedSome s t → FedSome t u → FedSome s u
+fed-then {s = s} {t = t} {u = u} (xs, F) (ys, G) = (
+  xs ++ ys,
+  record {
+    heard = λ held k. subst (λ ls. RunsTo s ls u) (sym (lines-append held xs ys)) (runs-then (F .heard held k) (G .heard (restOf held xs) (F .rest held k)));
+    rest = λ held k. subst (Keeps (u .line) (u .len)) (sym (rest-append held xs ys)) (G .rest (restOf held xs) (F .rest held k));
+  },
+)
+
+-- at the start nothing is held
+pub fed-all : {b x line : List ℕ} {t : State} → length line ≡ 36 → FedSome (record { block = b; inbox = x; started = false; line = line; len = 0 }) t → HearsSome b x (t .block) (t .inbox)
+fed-all {t = t} room (bytes, F) = (bytes, t .started, F .heard [] (record { room = room; size = refl; bytes = refl }))

@@ -46,5 +46,14 @@ pub record State : Type 0 where
   pub len : ℕ
 
 -- bytes are fed: whatever was held, the lines that end in them are heard one after the other, and the rest is kept
-unfoldable pub Fed : State → (bytes : List ℕ) → State → Type 0
-Fed s bytes t = (held : List ℕ) → Keeps (s .line) (s .len) held → Runs (s .block) (s .inbox) (s .started) (linesOf held bytes) (t .block) (t .inbox) (t .started) × Keeps (t .line) (t .len) (restOf held bytes)
+pub record Fed (s : State) (bytes : List ℕ) (t : State) : Type 0 where
+  pub heard : (held : List ℕ) → Keeps (s .line) (s .len) held → Runs (s .block) (s .inbox) (s .started) (linesOf held bytes) (t .block) (t .inbox) (t .started)
+  pub rest : (held : List ℕ) → Keeps (s .line) (s .len) held → Keeps (t .line) (t .len) (restOf held bytes)
+
+-- What the program reads no contract can name: there are bytes of which this is true.
+abbrev pub FedSome : State → State → Type 0
+FedSome s t = (bytes : List ℕ) × Fed s bytes t
+
+-- from a block and an inbox, the lines of some bytes are heard one after the other, and no batch has begun before them
+abbrev pub HearsSome : (b x b′ x′ : List ℕ) → Type 0
+HearsSome b x b′ x′ = (bytes : List ℕ) × (started : Bool) × Runs b x false (linesOf [] bytes) b′ x′ started

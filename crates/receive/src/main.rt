@@ -8,7 +8,7 @@ ghost use mathlib.Core.Path.{_≡_};
 ghost use Prim.Native.Nat.{ℕ, _≤_};
 ghost use mathlib.Core.List.{List, [], _∷_, _++_};
 ghost use lib.ListN.{length, take};
-ghost use Rattle.receive.specs.Lines.{Keeps, Runs, Fed};
+ghost use Rattle.receive.specs.Lines.{Keeps, Runs, Fed, FedSome, HearsSome};
 
 const NEWLINE: u8 = 10;
 
@@ -91,6 +91,7 @@ fn feed(b: &mut [u32], x: &mut [u32], line: &mut [u8; 36], from: Ear, bytes: &[u
 fn read_once(b: &mut [u32], x: &mut [u32], line: &mut [u8; 36], from: Ear) -> Turn
     requires { ⌜ (length (now x) ≡ 130) × (from .len ≤ 36) ⌝ }
     ensures { λ r. ⌜ r .ear .len ≤ 36 ⌝ }
+    ensures { λ r. ⌜ FedSome (record { block = now (b .entry); inbox = now (x .entry); started = from .begun; line = now (line .entry); len = from .len }) (record { block = now (b .exit); inbox = now (x .exit); started = r .ear .begun; line = now (line .exit); len = r .ear .len }) ⌝ }
 {
     let mut buffer = io::large_buffer();
     let got = libc::read(0, &mut buffer);
@@ -110,6 +111,7 @@ fn read_once(b: &mut [u32], x: &mut [u32], line: &mut [u8; 36], from: Ear) -> Tu
 // Nothing says that the input ends, so the turns are counted down from the largest number there is.
 fn read_all(b: &mut [u32], x: &mut [u32])
     requires { ⌜ length (now x) ≡ 130 ⌝ }
+    ensures { λ _. ⌜ HearsSome (now (b .entry)) (now (x .entry)) (now (b .exit)) (now (x .exit)) ⌝ }
 {
     let mut line = [0u8; 36];
     let mut ear = Ear {
