@@ -9,6 +9,7 @@ use lib.Dec.{eqb}
 use Rattle.model.specs.Frame.{Frame, parse}
 use Rattle.model.specs.Inbox.{begun}
 use Rattle.model.specs.Link.{Hearing}
+use Rattle.receive.specs.declared.Progress.{Progress}
 
 -- the lines that end in `bytes`, where `held` came before: a line ends at its newline (10)
 unfoldable pub linesOf : (held bytes : List ℕ) → List (List ℕ)
@@ -45,12 +46,15 @@ pub record State : Type 0 where
   pub line : List ℕ
   pub len : ℕ
 
+abbrev pub state : (b x line : List ℕ) → Progress → State
+state b x line p = record { block = b; inbox = x; started = p .begun; line = line; len = p .len }
+
 -- bytes are fed: whatever was held, the lines that end in them are heard one after the other, and the rest is kept
 pub record Fed (s : State) (bytes : List ℕ) (t : State) : Type 0 where
   pub heard : (held : List ℕ) → Keeps (s .line) (s .len) held → Runs (s .block) (s .inbox) (s .started) (linesOf held bytes) (t .block) (t .inbox) (t .started)
   pub rest : (held : List ℕ) → Keeps (s .line) (s .len) held → Keeps (t .line) (t .len) (restOf held bytes)
 
--- What the program reads no contract can name: there are bytes of which this is true.
+-- No contract can name what is read from standard input. There are bytes of which this is true: nothing else happens to block, inbox and line.
 abbrev pub FedSome : State → State → Type 0
 FedSome s t = (bytes : List ℕ) × Fed s bytes t
 

@@ -8,19 +8,20 @@ ghost use mathlib.Core.Path.{_≡_};
 ghost use Prim.Native.Nat.{ℕ, _≤_};
 ghost use mathlib.Core.List.{List, [], _∷_, _++_};
 ghost use lib.ListN.{length, take};
-ghost use Rattle.receive.specs.Lines.{Keeps, Runs, Fed, FedSome, HearsSome};
+ghost use Rattle.model.specs.Frame.{digits};
+ghost use Rattle.receive.specs.Lines.{Keeps, Runs, state, Fed, FedSome, HearsSome};
 
 const NEWLINE: u8 = 10;
 
-// What the next byte meets: how much of its line is kept, and whether a batch has begun.
-pub struct Ear {
+// Between two bytes: how many bytes of the line are kept, and whether a batch has begun.
+pub struct Progress {
     pub len: usize,
     pub begun: bool,
 }
 
-// The ear after one read, and whether there may be more to read.
+// The progress after one read, and whether there may be more to read.
 pub struct Turn {
-    pub ear: Ear,
+    pub progress: Progress,
     pub more: bool,
 }
 
@@ -64,10 +65,10 @@ fn hear_kept(b: &mut [u32], x: &mut [u32], begun: bool, line: &[u8; 36], len: us
 }
 
 // Bytes are cut into lines at each newline; what follows the last one is kept for the next bytes.
-fn feed(b: &mut [u32], x: &mut [u32], line: &mut [u8; 36], from: Ear, bytes: &[u8]) -> Ear
+fn feed(b: &mut [u32], x: &mut [u32], line: &mut [u8; 36], from: Progress, bytes: &[u8]) -> Progress
     requires { ⌜ (length (now x) ≡ 130) × (from .len ≤ 36) ⌝ }
     ensures { λ r. ⌜ r .len ≤ 36 ⌝ }
-    ensures { λ r. ⌜ Fed (record { block = now (b .entry); inbox = now (x .entry); started = from .begun; line = now (line .entry); len = from .len }) (now (bytes .entry)) (record { block = now (b .exit); inbox = now (x .exit); started = r .begun; line = now (line .exit); len = r .len }) ⌝ }
+    ensures { λ r. ⌜ Fed (state (now (b .entry)) (now (x .entry)) (now (line .entry)) from) (now (bytes .entry)) (state (now (b .exit)) (now (x .exit)) (now (line .exit)) r) ⌝ }
 {
     let mut len = from.len;
     let mut begun = from.begun;
@@ -81,29 +82,29 @@ fn feed(b: &mut [u32], x: &mut [u32], line: &mut [u8; 36], from: Ear, bytes: &[u
             len = 0;
         }
     }
-    Ear {
+    Progress {
         len: len,
         begun: begun,
     }
 }
 
 // One read, and its bytes fed on.
-fn read_once(b: &mut [u32], x: &mut [u32], line: &mut [u8; 36], from: Ear) -> Turn
+fn read_once(b: &mut [u32], x: &mut [u32], line: &mut [u8; 36], from: Progress) -> Turn
     requires { ⌜ (length (now x) ≡ 130) × (from .len ≤ 36) ⌝ }
-    ensures { λ r. ⌜ r .ear .len ≤ 36 ⌝ }
-    ensures { λ r. ⌜ FedSome (record { block = now (b .entry); inbox = now (x .entry); started = from .begun; line = now (line .entry); len = from .len }) (record { block = now (b .exit); inbox = now (x .exit); started = r .ear .begun; line = now (line .exit); len = r .ear .len }) ⌝ }
+    ensures { λ r. ⌜ r .progress .len ≤ 36 ⌝ }
+    ensures { λ r. ⌜ FedSome (state (now (b .entry)) (now (x .entry)) (now (line .entry)) from) (state (now (b .exit)) (now (x .exit)) (now (line .exit)) (r .progress)) ⌝ }
 {
     let mut buffer = io::large_buffer();
     let got = libc::read(0, &mut buffer);
     if got <= 0 {
         return Turn {
-            ear: from,
+            progress: from,
             more: false,
         };
     }
     let n = io::count(got, &buffer);
     Turn {
-        ear: feed(b, x, line, from, &buffer[..n]),
+        progress: feed(b, x, line, from, &buffer[..n]),
         more: true,
     }
 }
@@ -114,33 +115,45 @@ fn read_all(b: &mut [u32], x: &mut [u32])
     ensures { λ _. ⌜ HearsSome (now (b .entry)) (now (x .entry)) (now (b .exit)) (now (x .exit)) ⌝ }
 {
     let mut line = [0u8; 36];
-    let mut ear = Ear {
+    let mut progress = Progress {
         len: 0,
         begun: false,
     };
     let mut turns = u64::MAX;
     while 0 < turns {
-        let turn = read_once(b, x, &mut line, ear);
+        let turn = read_once(b, x, &mut line, progress);
         if !turn.more {
             return;
         }
-        ear = turn.ear;
+        progress = turn.progress;
         turns -= 1;
     }
 }
 
-fn print_entry(key: u32, value: u32) {
+// Key, then value, 16 digits.
+fn entry_line(key: u32, value: u32) -> [u8; 17]
+    ensures { λ r. ⌜ r ≡ digits 8 key ++ digits 8 value ++ 10 ∷ [] ⌝ }
+{
     let mut out = [NEWLINE; 17];
     put_hex(&mut out, 0, 8, key);
     put_hex(&mut out, 8, 8, value);
-    io::write_all(1, &out);
+    out
+}
+
+fn missing_line(missing: u32) -> [u8; 9]
+    ensures { λ r. ⌜ r ≡ digits 8 missing ++ 10 ∷ [] ⌝ }
+{
+    let mut out = [NEWLINE; 9];
+    put_hex(&mut out, 0, 8, missing);
+    out
 }
 
 // Four words an entry, of which the first two are key and value.
 fn print_entries(words: &[u32]) {
     let mut i: usize = 0;
     while i + 4 <= words.len() {
-        print_entry(words[i], words[i + 1]);
+        let line = entry_line(words[i], words[i + 1]);
+        io::write_all(1, &line);
         i += 4;
     }
 }
@@ -155,9 +168,8 @@ fn print_version(b: &[u32]) {
 }
 
 fn print_missing(x: &[u32]) {
-    let mut out = [NEWLINE; 9];
-    put_hex(&mut out, 0, 8, question(x).missing);
-    io::write_all(1, &out);
+    let line = missing_line(question(x).missing);
+    io::write_all(1, &line);
 }
 
 fn main() {

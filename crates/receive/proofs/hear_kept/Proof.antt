@@ -1,36 +1,27 @@
+-- The part of the buffer that is in use.
 use native.Mathlib.Numerals.{unary-clauses}
 use borrow.Author.Needs.{needs}
 use Rattle.receive.proofs.hear_kept.Statement.{statement}
 use Rattle.receive.proofs.hear_kept.Tie as tie
-use Rattle.receive.proofs.hear_kept.Reads as reads
-use Rattle.receive.proofs.hear_kept.Lts as lts
-use Rattle.receive.proofs.hear.Reads as hear-reads
 
--- src/main.rt:63:23
 sub-hear : tie.Need-sub-hear
 sub-hear c = search needs
 
--- src/main.rt:63:23
 part-hear-start : tie.Need-part-hear-start
 part-hear-start c = search needs
 
--- src/main.rt:63:23
 part-hear-end : tie.Need-part-hear-end
 part-hear-end c = search needs
 
--- src/main.rt:63:5
 hear-requires : tie.Need-hear-requires
 hear-requires c κs = search needs
 
--- src/main.rt:58:1
 same-length : tie.Need-same-length
 same-length c = search needs
 
--- src/main.rt:58:1
 same-length-2 : tie.Need-same-length-2
 same-length-2 c = search needs
 
--- src/main.rt:58:1
 returns : tie.Need-returns
 returns c = simp unary-clauses at (c .before .before .before .before .hear .ensures)
 

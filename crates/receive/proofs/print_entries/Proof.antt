@@ -1,11 +1,9 @@
+-- The index grows by four to the length.
 use borrow.Author.Needs.{needs}
 use Prim.Native.Nat.{_-_, _≤_}
 use lib.ListN.{length}
 use Rattle.receive.proofs.print_entries.Statement.{statement}
 use Rattle.receive.proofs.print_entries.Tie as tie
-use Rattle.receive.proofs.print_entries.Reads as reads
-use Rattle.receive.proofs.print_entries.Lts as lts
-use Rattle.receive.proofs.print_entry.Reads as print-entry-reads
 
 abbrev Inv-loop : tie.InvT-loop
 Inv-loop words i₀ i = i ≤ length words
@@ -13,51 +11,45 @@ Inv-loop words i₀ i = i ≤ length words
 abbrev μ-loop : tie.MeasureT-loop
 μ-loop words i₀ i = length words - i
 
--- src/main.rt:140:5
 loop-holds : tie.Need-loop-holds Inv-loop μ-loop
 loop-holds c = search needs
 
--- src/main.rt:140:11
 add-loop : tie.Need-add-loop Inv-loop μ-loop
 add-loop c = search needs
 
--- src/main.rt:141:21
-mul-print-entry : tie.Need-mul-print-entry Inv-loop μ-loop
-mul-print-entry c = search needs
+mul-entry-line : tie.Need-mul-entry-line Inv-loop μ-loop
+mul-entry-line c = search needs
 
--- src/main.rt:141:21
-shared-slice-read-print-entry : tie.Need-shared-slice-read-print-entry Inv-loop μ-loop
-shared-slice-read-print-entry c = search needs
+shared-slice-read-entry-line : tie.Need-shared-slice-read-entry-line Inv-loop μ-loop
+shared-slice-read-entry-line c = search needs
 
--- src/main.rt:141:37
-add-print-entry : tie.Need-add-print-entry Inv-loop μ-loop
-add-print-entry c = search needs
+add-entry-line : tie.Need-add-entry-line Inv-loop μ-loop
+add-entry-line c = search needs
 
--- src/main.rt:141:31
-mul-print-entry-2 : tie.Need-mul-print-entry-2 Inv-loop μ-loop
-mul-print-entry-2 c = search needs
+mul-entry-line-2 : tie.Need-mul-entry-line-2 Inv-loop μ-loop
+mul-entry-line-2 c = search needs
 
--- src/main.rt:141:31
-shared-slice-read-print-entry-2 : tie.Need-shared-slice-read-print-entry-2 Inv-loop μ-loop
-shared-slice-read-print-entry-2 c = search needs
+shared-slice-read-entry-line-2 : tie.Need-shared-slice-read-entry-line-2 Inv-loop μ-loop
+shared-slice-read-entry-line-2 c = search needs
 
--- src/main.rt:141:9
-print-entry-requires : tie.Need-print-entry-requires Inv-loop μ-loop
-print-entry-requires c κs = search needs
+entry-line-requires : tie.Need-entry-line-requires Inv-loop μ-loop
+entry-line-requires c κs = search needs
 
--- src/main.rt:142:9
+slice-aggregate-write-all : tie.Need-slice-aggregate-write-all Inv-loop μ-loop
+slice-aggregate-write-all c = search needs
+
+write-all-requires : tie.Need-write-all-requires Inv-loop μ-loop
+write-all-requires c κs = search needs
+
 add-i : tie.Need-add-i Inv-loop μ-loop
 add-i c = search needs
 
--- src/main.rt:140:5
 loop-less : tie.Need-loop-less Inv-loop μ-loop
 loop-less c = search needs
 
--- src/main.rt:140:5
 loop-again : tie.Need-loop-again Inv-loop μ-loop
 loop-again c = search needs
 
--- src/main.rt:138:1
 returns : tie.Need-returns Inv-loop μ-loop
 returns c = search needs
 
@@ -69,12 +61,14 @@ print-entries-spec =
     μ-loop
     loop-holds
     add-loop
-    mul-print-entry
-    shared-slice-read-print-entry
-    add-print-entry
-    mul-print-entry-2
-    shared-slice-read-print-entry-2
-    print-entry-requires
+    mul-entry-line
+    shared-slice-read-entry-line
+    add-entry-line
+    mul-entry-line-2
+    shared-slice-read-entry-line-2
+    entry-line-requires
+    slice-aggregate-write-all
+    write-all-requires
     add-i
     loop-less
     loop-again
