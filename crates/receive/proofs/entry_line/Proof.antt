@@ -22,7 +22,8 @@ put-hex-requires-2 c κs = search needs
 
 returns : tie.Need-returns
 unfolding digits
-returns c = c .before .put-hex2 .ensures ∙ ap (λ (o : List ℕ). take 8 o ++ (digits 8 (c .before .before .before .before .before .before .args .value) ++ drop 16 o)) (c .before .before .before .before .put-hex .ensures)
+returns c =
+    let first = c .before .before .before .before in c .before .put-hex2 .ensures ∙ ap (λ (o : List ℕ). take 8 o ++ (digits 8 (first .before .before .args .value) ++ drop 16 o)) (first .put-hex .ensures)
 
 pub entry-line-spec : {M : Type 1} → statement M
 entry-line-spec =

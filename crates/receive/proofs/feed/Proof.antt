@@ -3,7 +3,7 @@ use borrow.Author.Needs.{needs}
 use mathlib.Core.Path.{_∙_}
 use Prim.Native.Nat.{_-_}
 use lib.ListN.{length}
-use Rattle.receive.proofs.Hearing.{Feeding, feeding-none, feeding-byte, feeding-line, feeding-all}
+use Rattle.receive.proofs.Feeding.{Feeding, feeding-none, feeding-byte, feeding-line, feeding-all}
 use Rattle.receive.proofs.feed.Statement.{statement}
 use Rattle.receive.proofs.feed.Tie as tie
 
@@ -26,19 +26,25 @@ keep-requires : tie.Need-keep-requires Inv-loop μ-loop
 keep-requires c κs = c .before .before .before .loop .inv .short
 
 hear-kept-requires : tie.Need-hear-kept-requires Inv-loop μ-loop
-hear-kept-requires c κs = (c .before .before .before .before .before .before .before .before .loop .inv .inbox-long ∙ c .before .before .before .before .before .before .before .before .before .before .before .before .pre .0, c .before .before .before .before .keep .ensures .0)
+hear-kept-requires c κs =
+    let loop = c .before .before .before .before .before .before .before .before in (loop .loop .inv .inbox-long ∙ loop .before .before .before .before .pre .0, c .before .before .before .before .keep .ensures .0)
 
 loop-less : tie.Need-loop-less Inv-loop μ-loop
 loop-less c = search needs
 
 loop-again : tie.Need-loop-again Inv-loop μ-loop
-loop-again c = feeding-line (c .before .before .before .before .before .before .before .before .before .before .before .before .before .loop .inv) (c .before .before .before .before .before .before .before .before .before .before .before .before .loop-test .taken) (c .before .before .before .before .before .before .before .before .before .keep .ensures) (c .before .before .before .before .before .before .before .before .if1 .taken) (search needs) (search needs) (c .before .before .before .before .hear-kept .ensures)
+loop-again c =
+    let heard = c .before .before .before .before in
+    let kept = heard .before .before .before .before .before in
+    let turn = kept .before .before .before in
+    feeding-line (turn .before .loop .inv) (turn .loop-test .taken) (kept .keep .ensures) (heard .before .before .before .before .if1 .taken) (search needs) (search needs) (heard .hear-kept .ensures)
 
 loop-less-2 : tie.Need-loop-less-2 Inv-loop μ-loop
 loop-less-2 c = search needs
 
 loop-again-2 : tie.Need-loop-again-2 Inv-loop μ-loop
-loop-again-2 c = feeding-byte (c .before .before .before .before .before .loop .inv) (c .before .before .before .before .loop-test .taken) (c .before .keep .ensures) (c .if1 .left)
+loop-again-2 c =
+    let turn = c .before .before .before .before in feeding-byte (turn .before .loop .inv) (turn .loop-test .taken) (c .before .keep .ensures) (c .if1 .left)
 
 same-length : tie.Need-same-length Inv-loop μ-loop
 same-length c = c .before .loop .inv .block-long

@@ -16,13 +16,18 @@ same-length-2 : tie.Need-same-length-2
 same-length-2 c = search needs
 
 returns : tie.Need-returns
-returns c = runs-hears (c .before .before .before .before .before .before .before .before .before .before .before .args .line .now) (heardOf (c .before .before .before .before .receive .result)) (c .before .before .before .before .before .before .before .if1 .taken) (c .before .before .before .before .receive .ensures)
+returns c =
+    let r = c .before .before .before .before in
+    let start = r .before .before .before .before .before .before .before in
+    runs-hears (start .args .line .now) (heardOf (r .receive .result)) (r .before .before .before .if1 .taken) (r .receive .ensures)
 
 parse-requires : tie.Need-parse-requires
 parse-requires c κs = search needs
 
 returns-2 : tie.Need-returns-2
-returns-2 c = runs-waits (fieldsOf (c .before .before .parse .result .fields)) (c .before .before .before .before .before .before .before .args .line .now) (c .before .before .before .if1 .left) (c .before .before .parse .ensures) (c .if2 .taken)
+returns-2 c =
+    let p = c .before .before in
+    runs-waits (fieldsOf (p .parse .result .fields)) (p .before .before .before .before .before .args .line .now) (p .before .if1 .left) (p .parse .ensures) (c .if2 .taken)
 
 begin-requires : tie.Need-begin-requires
 begin-requires c κs = search needs
@@ -37,7 +42,13 @@ same-length-4 : tie.Need-same-length-4
 same-length-4 c = search needs
 
 returns-3 : tie.Need-returns-3
-returns-3 c = runs-begins (fieldsOf (c .before .before .before .before .before .before .before .before .before .before .before .before .before .parse .result .fields)) (c .before .before .before .before .before .before .before .before .before .before .before .before .before .before .before .before .before .before .args .line .now) (heardOf (c .before .before .before .before .receive2 .result)) (c .before .before .before .before .before .before .before .before .before .before .before .before .before .before .if1 .left) (c .before .before .before .before .before .before .before .before .before .before .before .before .before .parse .ensures) (c .before .before .before .before .before .before .before .before .before .before .before .if2 .left) (c .before .before .before .before .before .before .before .before .before .before .before .before .before .before .before .before .before .before .pre) (c .before .before .before .before .before .before .before .before .before .begin .ensures) (c .before .before .before .before .receive2 .ensures)
+returns-3 c =
+    let r = c .before .before .before .before in
+    let begins = r .before .before .before .before .before in
+    let p = begins .before .before .before .before in
+    let start = p .before .before .before .before .before in
+    runs-begins (fieldsOf (p .parse .result .fields)) (start .args .line .now) (heardOf (r .receive2 .result)) (p .before .if1 .left) (p .parse .ensures) (begins .before .before .if2 .left) (start .pre)
+    (begins .begin .ensures) (r .receive2 .ensures)
 
 pub hear-spec : {M : Type 1} → statement M
 hear-spec =

@@ -5,7 +5,7 @@ use mathlib.Core.Bool.{false}
 use Prim.Native.Nat.{_≤_}
 use lib.ListN.{length}
 use Rattle.receive.specs.Lines.{state, FedSome}
-use Rattle.receive.proofs.Hearing.{fed-none, fed-then, fed-all}
+use Rattle.receive.proofs.Feeding.{fed-none, fed-then, fed-all}
 use Rattle.receive.proofs.read_all.Statement.{statement}
 use Rattle.receive.proofs.read_all.Tie as tie
 
@@ -28,7 +28,8 @@ same-length-2 : tie.Need-same-length-2 Inv-loop μ-loop
 same-length-2 c = search needs
 
 returns : tie.Need-returns Inv-loop μ-loop
-returns c = fed-all refl (fed-then (c .before .before .before .before .before .before .before .before .before .before .before .loop .inv .3) (c .before .before .before .before .before .before .read-once .ensures .1))
+returns c =
+    let once = c .before .before .before .before .before .before in fed-all refl (fed-then (once .before .before .before .before .before .loop .inv .3) (once .read-once .ensures .1))
 
 sub-turns : tie.Need-sub-turns Inv-loop μ-loop
 sub-turns c = search needs
@@ -37,7 +38,8 @@ loop-less : tie.Need-loop-less Inv-loop μ-loop
 loop-less c = search needs
 
 loop-again : tie.Need-loop-again Inv-loop μ-loop
-loop-again c = (search needs, search needs, search needs, fed-then (c .before .before .before .before .before .before .before .before .before .before .before .before .loop .inv .3) (c .before .before .before .before .before .before .before .read-once .ensures .1))
+loop-again c =
+    let once = c .before .before .before .before .before .before .before in (search needs, search needs, search needs, fed-then (once .before .before .before .before .before .loop .inv .3) (once .read-once .ensures .1))
 
 same-length-3 : tie.Need-same-length-3 Inv-loop μ-loop
 same-length-3 c = search needs

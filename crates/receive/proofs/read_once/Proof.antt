@@ -1,6 +1,6 @@
 -- The bytes fed are those read.
 use borrow.Author.Needs.{needs}
-use Rattle.receive.proofs.Hearing.{fed-none}
+use Rattle.receive.proofs.Feeding.{fed-none}
 use Rattle.receive.proofs.read_once.Statement.{statement}
 use Rattle.receive.proofs.read_once.Tie as tie
 
