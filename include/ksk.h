@@ -34,6 +34,9 @@ extern "C" {
 #define KSK_LINE_BYTES     35u /* a frame's line: 34 digits and a newline */
 #define KSK_UNKNOWN        4294967295u /* what ksk_missing gives while the count is unknown */
 
+/* 0 for a sound block, else KSK_SHAPE or KSK_DAMAGED: what every call but ksk_fresh asks first. */
+uint32_t ksk_audit(const uint32_t *block, size_t words);
+
 /* Writes N and zeros: sixteen empty versions. */
 uint32_t ksk_fresh(uint32_t *block, size_t words, uint32_t n);
 

@@ -1,37 +1,30 @@
 -- A call from entry to exit, whatever its rule: carried out, or refused for room with every word as at entry.
 use mathlib.Core.Path.{_≡_, ap, _∙_}
 use mathlib.Core.Logic.{_≢_}
-use Prim.Native.Nat.{ℕ, _≤_, _<_}
+use Prim.Native.Nat.{ℕ, _<_}
 use mathlib.Core.Bool.{false}
 use mathlib.Core.List.{List}
 use native.Mathlib.Decide.{ℕ-discrete}
-use Rattle.model.specs.Tree.{Tree, leaf, Ordered}
-use Rattle.model.specs.Supply.{Make, done, short}
-use Rattle.model.specs.Heap.{Named, load, tree, version, supply}
+use Rattle.model.specs.Tree.{Tree, Ordered}
+use Rattle.model.specs.Supply.{Make, short}
+use Rattle.model.specs.Heap.{tree, version, supply}
 use Rattle.model.specs.Block.{heap, Words, SoundBlock}
-use Rattle.model.specs.Moves.{Running, Grown, FullBelow, HeldBelow, Swept, Finished}
+use Rattle.model.specs.Moves.{Grown, FullBelow, HeldBelow, Swept, Finished}
 use Rattle.model.specs.Calls.{Edited, Refused, Carried}
 use Rattle.model.proofs.Sorts.{sound-by-versions}
 use Rattle.model.proofs.Pinned.{undone}
 use Rattle.model.proofs.Growing.{stocked-supply}
-use Rattle.model.proofs.Versions.{sound-running, version-ordered, version-named, grown-version, gave-version}
+use Rattle.model.proofs.Versions.{version-ordered, grown-version, gave-version}
 use Rattle.model.proofs.Ends.{held-from}
 use Rattle.block.specs.declared.Made.{Made}
 use Rattle.block.specs.declared.Made.the-variants.{At, Full}
 use Rattle.block.specs.Outcome.{Outcome}
-use Rattle.block.proofs.Outcomes.{out-tree, out-done}
+use Rattle.block.proofs.Outcomes.{out-tree}
 
 module _ {b : List ℕ} (B : SoundBlock b) where
   -- the nodes below those that the call made have references
   pub held : {e : List ℕ} {q : Made} {rule : Make Tree} {from : ℕ} → FullBelow (heap b) from → Outcome b e q rule → HeldBelow (heap e) from
   held F O = held-from (B .sound .kept) F (O .came .grown) (O .came .running)
-
-  -- what the end of the call asks, on success and on Full
-  pub finish-asks : {e : List ℕ} {d n from : ℕ} {rule : Make Tree} → d < 16 → (1 ≤ from) × FullBelow (heap b) from → Outcome b e (At n) rule → Running e × (d < 16) × Named (heap e) n × (1 ≤ from) × HeldBelow (heap e) from
-  finish-asks lt F O = (O .came .running, lt, O .named, F .0, held (F .1) O)
-
-  pub sweep-asks : {e : List ℕ} {from : ℕ} {rule : Make Tree} → (1 ≤ from) × FullBelow (heap b) from → Outcome b e Full rule → Running e × (1 ≤ from) × HeldBelow (heap e) from
-  sweep-asks F O = (O .came .running, F .0, held (F .1) O)
 
   -- the end of a call in which version d became t
   ended : {e after : List ℕ} {d n : ℕ} {t : Tree} → Grown (heap b) (heap e) → tree (heap e) n ≡ t → Ordered t → Finished e after d n → Edited b after d t
@@ -64,18 +57,3 @@ module _ {b : List ℕ} (B : SoundBlock b) where
 
       sound : SoundBlock after
       sound = record { shaped = W .shaped; sound = sound-by-versions (heap after) (W .kept) (λ v lt. rw (same v lt) (version-ordered (B .sound) v lt)) }
-
-  -- the calls that make nothing: one version becomes another, or empty
-  pub copies : {n : ℕ} (v : ℕ) → v < 16 → n ≡ heap b .root v → Outcome b b (At n) (done (version (heap b) v))
-  copies {n} v lt e = rw (← e) (out-done b n (sound-running B) (version-named B v n lt e))
-
-  pub copied : {after : List ℕ} {d n : ℕ} (v : ℕ) → v < 16 → n ≡ heap b .root v → Finished b after d n → Carried b after d (done (version (heap b) v))
-  copied v lt e F = carried (copies v lt e) (version-ordered (B .sound) v lt) F
-
-  pub clears : Outcome b b (At 0) (done leaf)
-  unfolding tree load
-  clears = out-done b 0 (sound-running B) tt
-
-  pub cleared : {after : List ℕ} {d : ℕ} → Finished b after d 0 → Carried b after d (done leaf)
-  unfolding Ordered
-  cleared F = carried clears tt F

@@ -49,13 +49,20 @@ join-keeps k v leaf leaf s = balanced-keeps k v leaf leaf s
 join-keeps k v leaf (node j h w rl rr) s = balanced-keeps h w (join k v leaf rl (given j s) .0) rr (join k v leaf rl (given j s) .1) ∙ rw (join-keeps k v leaf rl (given j s)) refl
 join-keeps k v (node i h w ll lr) leaf s = balanced-keeps h w ll (join k v lr leaf (given i s) .0) (join k v lr leaf (given i s) .1) ∙ rw (join-keeps k v lr leaf (given i s)) (simp append-assoc)
 join-keeps k v (node i h w ll lr) (node j g u rl rr) s =
-    let L : Tree = node i h w ll lr in
-    let R : Tree = node j g u rl rr in
-    either _ s (larger R L) _ _
+    either all s (larger R L) _ _
     (balanced-keeps g u (join k v L rl (given j s) .0) rr (join k v L rl (given j s) .1) ∙ rw (join-keeps k v L rl (given j s)) (simp append-assoc))
-    (either _ s (larger L R) _ _
+    (either all s (larger L R) _ _
     (balanced-keeps h w ll (join k v lr R (given i s) .0) (join k v lr R (given i s) .1) ∙ rw (join-keeps k v lr R (given i s)) (simp append-assoc))
     (balanced-keeps k v L R s))
+  where
+    L : Tree
+    L = node i h w ll lr
+
+    R : Tree
+    R = node j g u rl rr
+
+    all : List Entry
+    all = entries L ++ (k, v) ∷ entries R
 
 -- Lists
 

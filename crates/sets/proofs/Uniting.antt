@@ -6,10 +6,9 @@ use borrow.Author.Tests.{le-leb, lt-leb}
 use native.Mathlib.Omega.{arith}
 use Rattle.model.specs.Tree.{Tree, leaf, node, size}
 use Rattle.model.specs.Supply.{Make, done, apart, _>>=_, _>>_}
-use Rattle.model.specs.Rules.{join, split, mergedLeft, mergedRight, unionBy, union}
+use Rattle.model.specs.Rules.{join, split, mergedLeft, mergedRight, unionBy}
 use Rattle.model.specs.Heap.{sizeAt, load, tree}
 use Rattle.model.specs.Block.{heap}
-use Rattle.model.proofs.Loads.{tree-size}
 use Rattle.model.proofs.Sizes.{unionBy-size}
 use Rattle.model.proofs.Steady.{onward, unionBy-steady}
 use Rattle.block.specs.declared.Made.{Made}
@@ -28,11 +27,6 @@ told-union {b} {e} {merge} {l} {r} q z p U = subst (λ w. United b e w merge l r
 
 pub straight : {b e : List ℕ} {q : Made} {merge : ℕ → ℕ → ℕ} {l r : ℕ} → Fed b e q (unionBy merge) l r → United b e q merge l r
 straight O = record { any = O }
-
--- with the fuel of the rule of a union
-pub as-union : {b e : List ℕ} {q : Made} {merge : ℕ → ℕ → ℕ} {l r : ℕ} → Asks b l r → United b e q merge l r → Outcome b e q (union merge (tree (heap b) l) (tree (heap b) r))
-unfolding union
-as-union {b} {e} {q} {merge} {l} {r} A U = U .any (suc (size (tree (heap b) l) + size (tree (heap b) r))) (omega (arith, tree-size (heap b) (A .0 .linked) l (A .1), tree-size (heap b) (A .0 .linked) r (A .2)))
 
 -- the two trees the other way round
 abbrev pub turned : (ℕ → ℕ → ℕ) → ℕ → Tree → Tree → Make Tree

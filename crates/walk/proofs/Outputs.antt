@@ -163,11 +163,6 @@ module _ (w : Wanted) (start : ℕ) (rs : List Row) where
   unfolding part
   part-long room = words-of-long w (take (room / width w) (drop start (chosen w rs))) ∙ rw (length-take (room / width w) (drop start (chosen w rs)), length-drop start (chosen w rs))
 
-  -- the part that is written, taken back
-  pub part-taken : (out : List ℕ) → take (length (part w start (length out) rs)) (written w start rs out) ≡ part w start (length out) rs
-  unfolding written
-  part-taken out = take-at (part w start (length out) rs) (drop (length (part w start (length out) rs)) out) (length (part w start (length out) rs)) refl
-
 -- one more row counts if it is wanted
 pub chosen-more : (w : Wanted) (n : ℕ) (r : Row) (rs : List Row) → n + length (chosen w (r ∷ rs)) ≡ (n + counted w r) + length (chosen w rs)
 unfolding chosen counted
