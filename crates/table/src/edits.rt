@@ -27,7 +27,7 @@ const RULE: u32 = 4;
 
 const NO_ROOM: u32 = 5;
 
-// The end of an edit: the destination takes what was made, or what was made is given up again.
+// The end of an edit: the destination takes what was made, or what was made is given up again. Receive ends its edit by it too; it is no call of its own.
 pub fn settle(b: &mut [u32], dst: u32, from: u32, made: Made) -> u32
     requires { ⌜ Running (now b) × (dst < 16) × Stands (heap (now b)) made × (1 ≤ from) × HeldBelow (heap (now b)) from ⌝ }
     ensures { λ r. ⌜ Settled (now (b .entry)) (now (b .exit)) dst made r ⌝ }
@@ -49,7 +49,7 @@ pub fn is_absent(f: Found) -> bool
     }
 }
 
-// The tree below n without a key whose lookup gave f.
+// The tree below n without a key whose lookup gave f. Receive removes by it too; it is no call of its own.
 pub fn without(b: &mut [u32], n: u32, key: u32, f: Found) -> Made
     requires { ⌜ Running (now b) × Named (heap (now b)) n × (sizeAt (heap (now b)) n < 1048575) × (answer f ≡ lookup (tree (heap (now b)) n) key) ⌝ }
     ensures { λ r. ⌜ Outcome (now (b .entry)) (now (b .exit)) r (remove (tree (heap (now (b .entry))) n) key) ⌝ }
