@@ -1,4 +1,4 @@
-/* A host in C: the primary drops a call, its lines reach the standby, and both sites hold the same minutes. */
+/* A host in C: the primary drops a call, its lines reach the standby, and both sites hold the same minutes. Then the same with accounts: a ledger over a version of the primary. */
 #include <stdio.h>
 #include <stdlib.h>
 
@@ -26,18 +26,18 @@ static void reserve(uint32_t *block, uint32_t version, uint32_t call, uint32_t m
     expect_done("ksk_insert", ksk_insert(block, KSK_BLOCK_WORDS(N), version, version, call, minutes, &had, &old));
 }
 
-/* Sends the change of the primary from version 0 to version 1; every second line is lost at first and sent again. */
-static void send(void)
+/* Sends the change of the primary from one version to another into the same version of the standby; every second line is lost at first and sent again. */
+static void send(uint32_t from, uint32_t to, uint32_t batch, uint32_t version)
 {
     uint8_t lines[LINES * KSK_LINE_BYTES];
     uint32_t written, total, again, missing = KSK_UNKNOWN;
 
-    expect_done("ksk_frames", ksk_frames(primary, KSK_BLOCK_WORDS(N), 0, 1, 7, 0, lines, sizeof lines, &written, &total));
-    expect_done("ksk_begin", ksk_begin(inbox, KSK_INBOX_WORDS, 7));
+    expect_done("ksk_frames", ksk_frames(primary, KSK_BLOCK_WORDS(N), from, to, batch, 0, lines, sizeof lines, &written, &total));
+    expect_done("ksk_begin", ksk_begin(inbox, KSK_INBOX_WORDS, batch));
     for (uint32_t round = 0; round < 2; round++)
         for (uint32_t i = round; i < total; i += 2)
-            expect_done("ksk_receive", ksk_receive(standby, KSK_BLOCK_WORDS(N), inbox, KSK_INBOX_WORDS, 0, lines + i * KSK_LINE_BYTES, KSK_LINE_BYTES, &again, &missing));
-    printf("%u lines, %u missing\n", total, missing);
+            expect_done("ksk_receive", ksk_receive(standby, KSK_BLOCK_WORDS(N), inbox, KSK_INBOX_WORDS, version, lines + i * KSK_LINE_BYTES, KSK_LINE_BYTES, &again, &missing));
+    printf("lines sent: %u, missing: %u\n", total, missing);
 }
 
 /* Prints a version: its listing against version 15, which stays empty. */
@@ -47,6 +47,54 @@ static void print(const uint32_t *block, uint32_t version)
     expect_done("ksk_list", ksk_list(block, KSK_BLOCK_WORDS(N), version, 15, 0, entries, 16 * KSK_ENTRY_WORDS, &written, &total));
     for (uint32_t i = 0; i < written; i += KSK_ENTRY_WORDS)
         printf("call %u holds %u minutes\n", entries[i], entries[i + 1]);
+}
+
+#define ACCOUNTS 4u
+#define OPEN_CALLS 2u /* the version that the ledger is over: it holds the open calls */
+#define SENT 3u       /* what the standby has been sent of it */
+#define CALL(account, i) ((account) << 24 | (i))
+
+static uint64_t ledger[KSK_LEDGER_WORDS(ACCOUNTS)];
+
+static void open_call(uint32_t call, uint32_t minutes)
+{
+    uint32_t table;
+    expect_done("ksk_ledger_reserve", ksk_ledger_reserve(ledger, KSK_LEDGER_WORDS(ACCOUNTS), primary, KSK_BLOCK_WORDS(N), OPEN_CALLS, call, minutes, &table));
+}
+
+/* The standby is sent what has changed since it was last sent something. */
+static void bring_up_to_date(uint32_t batch)
+{
+    send(SENT, OPEN_CALLS, batch, OPEN_CALLS);
+    expect_done("ksk_copy", ksk_copy(primary, KSK_BLOCK_WORDS(N), SENT, OPEN_CALLS));
+}
+
+static void print_account(uint32_t account)
+{
+    uint64_t topped, spent, unused;
+    expect_done("ksk_ledger_account", ksk_ledger_account(ledger, KSK_LEDGER_WORDS(ACCOUNTS), account, &topped, &spent, &unused));
+    printf("account %u: topped up %llu, spent %llu, free %llu\n", account, (unsigned long long)topped, (unsigned long long)spent, (unsigned long long)unused);
+}
+
+/* Account 1 opens two calls; one drops and its release reaches the standby, the other ends. */
+static void accounts(void)
+{
+    uint32_t table;
+
+    expect_done("ksk_ledger_fresh", ksk_ledger_fresh(ledger, KSK_LEDGER_WORDS(ACCOUNTS), ACCOUNTS));
+    expect_done("ksk_ledger_top_up", ksk_ledger_top_up(ledger, KSK_LEDGER_WORDS(ACCOUNTS), 1, 100));
+    open_call(CALL(1u, 5u), 30);
+    open_call(CALL(1u, 6u), 40);
+    print_account(1);
+    bring_up_to_date(8);
+    print(standby, OPEN_CALLS);
+    expect_done("ksk_ledger_release", ksk_ledger_release(ledger, KSK_LEDGER_WORDS(ACCOUNTS), primary, KSK_BLOCK_WORDS(N), OPEN_CALLS, CALL(1u, 5u), &table));
+    printf("call %u dropped\n", CALL(1u, 5u));
+    print_account(1);
+    bring_up_to_date(9);
+    print(standby, OPEN_CALLS);
+    expect_done("ksk_ledger_settle", ksk_ledger_settle(ledger, KSK_LEDGER_WORDS(ACCOUNTS), primary, KSK_BLOCK_WORDS(N), OPEN_CALLS, CALL(1u, 6u), 12, &table));
+    print_account(1);
 }
 
 int main(void)
@@ -63,7 +111,8 @@ int main(void)
     expect_done("ksk_remove", ksk_remove(primary, KSK_BLOCK_WORDS(N), 1, 0, 2, &had, &old));
     printf("call 2 dropped, %u minutes released\n", old);
     reserve(primary, 1, 4, 40);
-    send();
+    send(0, 1, 7, 0);
     print(standby, 0);
+    accounts();
     return 0;
 }

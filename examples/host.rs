@@ -1,10 +1,18 @@
-//! A host in Rust: the primary drops a call, its lines reach the standby, and both sites hold the same minutes.
+//! A host in Rust: the primary drops a call, its lines reach the standby, and both sites hold the same minutes. Then the same with accounts: a ledger over a version of the primary.
 
 mod ksk;
 
-use ksk::{Block, Inbox, Refusal};
+use ksk::{Block, Declined, Inbox, Ledger, Refusal};
+use std::error::Error;
 
-fn main() -> Result<(), Refusal> {
+/// The version that the ledger is over: it holds the open calls.
+const OPEN_CALLS: u32 = 2;
+/// What the standby has been sent of it.
+const SENT: u32 = 3;
+/// Stays empty: a listing against it is the whole version.
+const EMPTY: u32 = 15;
+
+fn main() -> Result<(), Box<dyn Error>> {
     let mut primary = Block::fresh(2048)?;
     let mut standby = Block::fresh(2048)?;
     for call in 1..=3 {
@@ -15,18 +23,58 @@ fn main() -> Result<(), Refusal> {
     let released = primary.remove(1, 0, 2)?.unwrap_or(0);
     println!("call 2 dropped, {released} minutes released");
     primary.insert(1, 1, 4, 40)?;
+    send(&primary, 0, 1, 7, &mut standby, 0)?;
+    print(&standby, 0)?;
+    accounts(&mut primary, &mut standby)?;
+    Ok(())
+}
 
-    // Every second line is lost at first and sent again.
-    let lines = primary.frames(0, 1, 7)?;
-    let mut inbox = Inbox::begin(7);
+/// Sends the change from one version to another into a version of the standby; every second line is lost at first and sent again.
+fn send(primary: &Block, from: u32, to: u32, batch: u32, standby: &mut Block, version: u32) -> Result<(), Refusal> {
+    let lines = primary.frames(from, to, batch)?;
+    let mut inbox = Inbox::begin(batch);
     for line in lines.iter().step_by(2).chain(lines.iter().skip(1).step_by(2)) {
-        standby.receive(&mut inbox, 0, line)?;
+        standby.receive(&mut inbox, version, line)?;
     }
-    println!("{} lines, {} missing", lines.len(), inbox.missing()?.unwrap_or(u32::MAX));
+    println!("lines sent: {}, missing: {}", lines.len(), inbox.missing()?.unwrap_or(u32::MAX));
+    Ok(())
+}
 
-    // Version 15 stays empty: a listing against it is the whole version.
-    for entry in standby.list(0, 15)? {
+fn print(block: &Block, version: u32) -> Result<(), Refusal> {
+    for entry in block.list(version, EMPTY)? {
         println!("call {} holds {} minutes", entry.key, entry.left);
     }
+    Ok(())
+}
+
+/// Account 1 opens two calls; one drops and its release reaches the standby, the other ends.
+fn accounts(primary: &mut Block, standby: &mut Block) -> Result<(), Box<dyn Error>> {
+    let call = |i: u32| 1 << 24 | i;
+    let mut ledger = Ledger::fresh(4)?;
+    ledger.top_up(1, 100)?;
+    ledger.reserve(primary, OPEN_CALLS, call(5), 30)?;
+    ledger.reserve(primary, OPEN_CALLS, call(6), 40)?;
+    print_account(&ledger, 1)?;
+    bring_up_to_date(primary, 8, standby)?;
+    print(standby, OPEN_CALLS)?;
+    ledger.release(primary, OPEN_CALLS, call(5))?;
+    println!("call {} dropped", call(5));
+    print_account(&ledger, 1)?;
+    bring_up_to_date(primary, 9, standby)?;
+    print(standby, OPEN_CALLS)?;
+    ledger.settle(primary, OPEN_CALLS, call(6), 12)?;
+    print_account(&ledger, 1)?;
+    Ok(())
+}
+
+/// The standby is sent what has changed since it was last sent something.
+fn bring_up_to_date(primary: &mut Block, batch: u32, standby: &mut Block) -> Result<(), Refusal> {
+    send(primary, SENT, OPEN_CALLS, batch, standby, OPEN_CALLS)?;
+    primary.copy(SENT, OPEN_CALLS)
+}
+
+fn print_account(ledger: &Ledger, account: u32) -> Result<(), Declined> {
+    let t = ledger.account(account)?;
+    println!("account {account}: topped up {}, spent {}, free {}", t.topped, t.spent, t.free);
     Ok(())
 }

@@ -1,5 +1,7 @@
 //! The table's calls with safe types, over the exports of include/ksk.h.
 
+use std::error::Error;
+use std::fmt;
 use std::os::raw::c_uint;
 
 #[link(name = "switch", kind = "static")]
@@ -18,6 +20,12 @@ extern "C" {
     fn ksk_begin(inbox: *mut u32, words: usize, batch: c_uint) -> c_uint;
     fn ksk_receive(block: *mut u32, words: usize, inbox: *mut u32, inbox_words: usize, version: c_uint, line: *const u8, bytes: usize, again: *mut u32, missing: *mut u32) -> c_uint;
     fn ksk_missing(inbox: *const u32, words: usize, missing: *mut u32) -> c_uint;
+    fn ksk_ledger_fresh(ledger: *mut u64, words: usize, accounts: c_uint) -> c_uint;
+    fn ksk_ledger_top_up(ledger: *mut u64, words: usize, account: c_uint, minutes: u64) -> c_uint;
+    fn ksk_ledger_reserve(ledger: *mut u64, ledger_words: usize, block: *mut u32, words: usize, version: c_uint, call: c_uint, minutes: c_uint, table: *mut u32) -> c_uint;
+    fn ksk_ledger_settle(ledger: *mut u64, ledger_words: usize, block: *mut u32, words: usize, version: c_uint, call: c_uint, used: c_uint, table: *mut u32) -> c_uint;
+    fn ksk_ledger_release(ledger: *mut u64, ledger_words: usize, block: *mut u32, words: usize, version: c_uint, call: c_uint, table: *mut u32) -> c_uint;
+    fn ksk_ledger_account(ledger: *const u64, words: usize, account: c_uint, topped: *mut u64, spent: *mut u64, free: *mut u64) -> c_uint;
 }
 
 /// Why a call was refused. Nothing has changed.
@@ -33,6 +41,14 @@ pub enum Refusal {
     Batch,
     Count,
 }
+
+impl fmt::Display for Refusal {
+    fn fmt(&self, f: &mut fmt::Formatter) -> fmt::Result {
+        write!(f, "the table refused: {self:?}")
+    }
+}
+
+impl Error for Refusal {}
 
 /// The value of a common key in a union.
 #[derive(Clone, Copy, Debug)]
@@ -188,5 +204,97 @@ impl Inbox {
         let mut missing = 0;
         done(unsafe { ksk_missing(self.words.as_ptr(), self.words.len(), &mut missing) })?;
         Ok((missing != u32::MAX).then_some(missing))
+    }
+}
+
+/// Why an operation of the ledger was refused, with the table's own refusal where it was the table's. Nothing has changed.
+#[derive(Clone, Copy, Debug, PartialEq, Eq)]
+pub enum Declined {
+    Accounts,
+    Account,
+    Lookup(Refusal),
+    Open,
+    NotOpen,
+    Free,
+    Above,
+    Total,
+    Edit(Refusal),
+}
+
+impl fmt::Display for Declined {
+    fn fmt(&self, f: &mut fmt::Formatter) -> fmt::Result {
+        write!(f, "the ledger refused: {self:?}")
+    }
+}
+
+impl Error for Declined {}
+
+fn carried(number: u32, table: u32) -> Result<(), Declined> {
+    let refusal = || done(table).expect_err("beside 23 and 29 stands the table's refusal");
+    Err(match number {
+        0 => return Ok(()),
+        21 => Declined::Accounts,
+        22 => Declined::Account,
+        23 => Declined::Lookup(refusal()),
+        24 => Declined::Open,
+        25 => Declined::NotOpen,
+        26 => Declined::Free,
+        27 => Declined::Above,
+        28 => Declined::Total,
+        29 => Declined::Edit(refusal()),
+        other => unreachable!("the ledger gives 0 and 21 to 29, not {other}"),
+    })
+}
+
+/// An account's minutes.
+#[derive(Clone, Copy, Debug, PartialEq, Eq)]
+pub struct Totals {
+    pub topped: u64,
+    pub spent: u64,
+    pub free: u64,
+}
+
+/// Accounts above one version of a block, which only the ledger edits. A call number's top eight bits are its account.
+pub struct Ledger {
+    words: Vec<u64>,
+}
+
+impl Ledger {
+    /// 1 to 256 accounts with nothing in them.
+    pub fn fresh(accounts: u32) -> Result<Ledger, Declined> {
+        let mut ledger = Ledger { words: vec![0; 3 * accounts.min(257) as usize] };
+        carried(unsafe { ksk_ledger_fresh(ledger.words.as_mut_ptr(), ledger.words.len(), accounts) }, 0)?;
+        Ok(ledger)
+    }
+
+    pub fn top_up(&mut self, account: u32, minutes: u64) -> Result<(), Declined> {
+        carried(unsafe { ksk_ledger_top_up(self.words.as_mut_ptr(), self.words.len(), account, minutes) }, 0)
+    }
+
+    /// A call opens.
+    pub fn reserve(&mut self, block: &mut Block, version: u32, call: u32, minutes: u32) -> Result<(), Declined> {
+        let mut table = 0;
+        let number = unsafe { ksk_ledger_reserve(self.words.as_mut_ptr(), self.words.len(), block.words.as_mut_ptr(), block.words.len(), version, call, minutes, &mut table) };
+        carried(number, table)
+    }
+
+    /// A call ends: `used` minutes are spent, the rest is free again.
+    pub fn settle(&mut self, block: &mut Block, version: u32, call: u32, used: u32) -> Result<(), Declined> {
+        let mut table = 0;
+        let number = unsafe { ksk_ledger_settle(self.words.as_mut_ptr(), self.words.len(), block.words.as_mut_ptr(), block.words.len(), version, call, used, &mut table) };
+        carried(number, table)
+    }
+
+    /// A call is dropped: all of it is free again.
+    pub fn release(&mut self, block: &mut Block, version: u32, call: u32) -> Result<(), Declined> {
+        let mut table = 0;
+        let number = unsafe { ksk_ledger_release(self.words.as_mut_ptr(), self.words.len(), block.words.as_mut_ptr(), block.words.len(), version, call, &mut table) };
+        carried(number, table)
+    }
+
+    pub fn account(&self, account: u32) -> Result<Totals, Declined> {
+        let [mut topped, mut spent, mut free] = [0; 3];
+        carried(unsafe { ksk_ledger_account(self.words.as_ptr(), self.words.len(), account, &mut topped, &mut spent, &mut free) }, 0)?;
+        Ok(Totals { topped, spent, free })
     }
 }

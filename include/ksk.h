@@ -26,10 +26,22 @@ extern "C" {
 #define KSK_BATCH    8u /* another batch number */
 #define KSK_COUNT    9u /* inbox count not zero and unlike the frame's */
 
+/* Numbers of the ledger, in the order in which they are checked. */
+#define KSK_ACCOUNTS     21u /* the ledger is not three words for each of 1 to 256 accounts; fresh: or not of the number given */
+#define KSK_ACCOUNT      22u /* no such account */
+#define KSK_LOOKUP       23u /* the table refused the lookup; table is its number */
+#define KSK_OPEN         24u /* the call is open already */
+#define KSK_NOT_OPEN     25u /* the call is not open */
+#define KSK_FREE         26u /* not so many minutes are free */
+#define KSK_ABOVE        27u /* settled for more than was reserved */
+#define KSK_TOTAL        28u /* a total would not fit 64 bits */
+#define KSK_EDIT_REFUSED 29u /* the table refused the edit; table is its number */
+
 /* Sizes. N, the number of nodes, is a multiple of 32 from 32 to 4,096. */
 #define KSK_VERSIONS       16u
 #define KSK_BLOCK_WORDS(n) (17u + (n) / 32u + 6u * (n))
 #define KSK_INBOX_WORDS    130u
+#define KSK_LEDGER_WORDS(accounts) (3u * (accounts)) /* words of 64 bits: topped-up, spent and free minutes of each account */
 #define KSK_ENTRY_WORDS    4u  /* a listing's entry: key, left value, 1 if common else 0, right value or 0 */
 #define KSK_LINE_BYTES     35u /* a frame's line: 34 digits and a newline */
 #define KSK_UNKNOWN        4294967295u /* what ksk_missing gives while the count is unknown */
@@ -82,6 +94,27 @@ uint32_t ksk_receive(uint32_t *block, size_t words, uint32_t *inbox, size_t inbo
 
 /* How many lines are missing; KSK_UNKNOWN while no line has been accepted. */
 uint32_t ksk_missing(const uint32_t *inbox, size_t words, uint32_t *missing);
+
+/* The ledger: accounts above one version, in which open calls stand under their numbers. A call number's top eight bits are its account. Only these calls may edit that version.
+ * For each account free + the sum of its open calls' minutes + spent is always what it was topped up by. */
+
+/* Writes zeros: accounts 0 to accounts - 1 with nothing in them. */
+uint32_t ksk_ledger_fresh(uint64_t *ledger, size_t words, uint32_t accounts);
+
+/* Adds minutes to an account's topped-up and free. */
+uint32_t ksk_ledger_top_up(uint64_t *ledger, size_t words, uint32_t account, uint64_t minutes);
+
+/* Opens a call: its minutes go from free into the version. */
+uint32_t ksk_ledger_reserve(uint64_t *ledger, size_t ledger_words, uint32_t *block, size_t words, uint32_t version, uint32_t call, uint32_t minutes, uint32_t *table);
+
+/* Closes a call: used minutes are spent, the rest of what it reserved is free again. Its number may be used again. */
+uint32_t ksk_ledger_settle(uint64_t *ledger, size_t ledger_words, uint32_t *block, size_t words, uint32_t version, uint32_t call, uint32_t used, uint32_t *table);
+
+/* Drops a call: all that it reserved is free again. */
+uint32_t ksk_ledger_release(uint64_t *ledger, size_t ledger_words, uint32_t *block, size_t words, uint32_t version, uint32_t call, uint32_t *table);
+
+/* An account's totals. */
+uint32_t ksk_ledger_account(const uint64_t *ledger, size_t words, uint32_t account, uint64_t *topped, uint64_t *spent, uint64_t *free);
 
 #ifdef __cplusplus
 }

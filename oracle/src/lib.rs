@@ -6,6 +6,7 @@ pub mod exports;
 pub mod fast;
 pub mod frame;
 pub mod history;
+pub mod ledger;
 pub mod original;
 pub mod parts;
 pub mod plain;

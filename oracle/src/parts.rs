@@ -4,6 +4,7 @@ pub mod cases;
 pub mod damage;
 pub mod exhaustive;
 pub mod histories;
+pub mod ledger;
 pub mod limits;
 pub mod lines;
 pub mod link;

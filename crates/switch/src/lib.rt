@@ -3,6 +3,7 @@ ghost use Rattle.model.specs.Calls.{Fresh, Lookup, Size, Edits, inserting, remo
 ghost use Rattle.model.specs.Frame.{parse};
 ghost use Rattle.model.specs.Lists.{Lists, listed, framed};
 ghost use Rattle.model.specs.Link.{Parse, Begin, Missing, Receive};
+ghost use Rattle.ledger.specs.Ledger as totals;
 ghost use Rattle.switch.specs.Cancels.{ruleFor};
 ghost use lib.Dec.{eqb};
 ghost use mathlib.Core.Path.{_≡_};
@@ -245,4 +246,88 @@ pub extern "C" fn ksk_audit(block: &[u32]) -> u32
     ensures { λ r. ⌜ Checked (now (block .entry)) r ⌝ }
 {
     audit::check(block)
+}
+
+// A ledger of so many accounts with nothing in them.
+#[no_mangle]
+pub extern "C" fn ksk_ledger_fresh(ledger: &mut [u64], accounts: u32) -> u32
+    ensures { λ r. ⌜ totals.Fresh (now (ledger .entry)) (now (ledger .exit)) accounts r ⌝ }
+{
+    ledger::fresh(ledger, accounts)
+}
+
+// Minutes paid for.
+#[no_mangle]
+pub extern "C" fn ksk_ledger_top_up(ledger: &mut [u64], account: u32, minutes: u64) -> u32
+    ensures { λ r. ⌜ totals.TopUp (now (ledger .entry)) (now (ledger .exit)) account minutes r ⌝ }
+{
+    ledger::top_up(ledger, account, minutes)
+}
+
+// A call opens.
+#[no_mangle]
+pub extern "C" fn ksk_ledger_reserve(
+    ledger: &mut [u64],
+    block: &mut [u32],
+    version: u32,
+    call: u32,
+    minutes: u32,
+    table: &mut u32,
+) -> u32
+    ensures { λ r. ⌜ totals.Reserve (record { ledger = now (ledger .entry); block = now (block .entry); ledger′ = now (ledger .exit); block′ = now (block .exit); answer = record { number = r; table = now (table .exit) } }) version call minutes ⌝ }
+{
+    let a = ledger::reserve(ledger, block, version, call, minutes);
+    *table = a.table;
+    a.number
+}
+
+// A call ends.
+#[no_mangle]
+pub extern "C" fn ksk_ledger_settle(
+    ledger: &mut [u64],
+    block: &mut [u32],
+    version: u32,
+    call: u32,
+    used: u32,
+    table: &mut u32,
+) -> u32
+    ensures { λ r. ⌜ totals.Settle (record { ledger = now (ledger .entry); block = now (block .entry); ledger′ = now (ledger .exit); block′ = now (block .exit); answer = record { number = r; table = now (table .exit) } }) version call used ⌝ }
+{
+    let a = ledger::settle(ledger, block, version, call, used);
+    *table = a.table;
+    a.number
+}
+
+// A call is dropped.
+#[no_mangle]
+pub extern "C" fn ksk_ledger_release(
+    ledger: &mut [u64],
+    block: &mut [u32],
+    version: u32,
+    call: u32,
+    table: &mut u32,
+) -> u32
+    ensures { λ r. ⌜ totals.Release (record { ledger = now (ledger .entry); block = now (block .entry); ledger′ = now (ledger .exit); block′ = now (block .exit); answer = record { number = r; table = now (table .exit) } }) version call ⌝ }
+{
+    let a = ledger::release(ledger, block, version, call);
+    *table = a.table;
+    a.number
+}
+
+// An account's totals.
+#[no_mangle]
+pub extern "C" fn ksk_ledger_account(
+    ledger: &[u64],
+    account: u32,
+    topped: &mut u64,
+    spent: &mut u64,
+    free: &mut u64,
+) -> u32
+    ensures { λ r. ⌜ totals.Account (now (ledger .entry)) account (record { number = r; topped = now (topped .exit); spent = now (spent .exit); free = now (free .exit) }) ⌝ }
+{
+    let a = ledger::account(ledger, account);
+    *topped = a.topped;
+    *spent = a.spent;
+    *free = a.free;
+    a.number
 }

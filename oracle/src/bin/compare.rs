@@ -1,12 +1,12 @@
 //! Compares the exported calls with the original and with document 01. Usage: compare [seed] [times]
 
 use oracle::exports::ANSWERS;
-use oracle::parts::{cases, damage, exhaustive, histories, limits, lines, link, room, uneven, Compared, Effort};
+use oracle::parts::{cases, damage, exhaustive, histories, ledger, limits, lines, link, room, uneven, Compared, Effort};
 use std::process::ExitCode;
 use std::sync::atomic::Ordering;
 use std::time::Instant;
 
-const PARTS: [(&str, fn(Effort) -> Compared); 12] = [
+const PARTS: [(&str, fn(Effort) -> Compared); 13] = [
     ("worked cases of document 01", cases::worked),
     ("fresh blocks at every N", limits::fresh),
     ("inboxes: begin and missing", limits::inboxes),
@@ -19,6 +19,7 @@ const PARTS: [(&str, fn(Effort) -> Compared); 12] = [
     ("uneven trees: listings and depth", uneven::depths),
     ("damaged and cut blocks and inboxes", damage::refusals),
     ("links with loss, repeats and delay", link::sent),
+    ("ledgers", ledger::histories),
 ];
 
 fn main() -> ExitCode {

@@ -1,0 +1,9 @@
+pub mod Sums
+pub mod Columns
+pub mod Meanings
+pub mod Minutes
+pub mod Refusals
+pub mod Once
+pub mod Standby
+pub mod Tests
+pub mod Asking

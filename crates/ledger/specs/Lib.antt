@@ -1,0 +1,4 @@
+pub mod Numbers
+pub mod Ledger
+pub mod Steps
+pub mod Parts
