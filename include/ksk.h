@@ -1,7 +1,8 @@
 /* The reservation table: call numbers to minutes, sixteen versions in one lent block of 32-bit words.
  *
  * Every call answers a number, 0 for done. A refusal leaves every lent word and byte as it was, and sets every field
- * behind a pointer to 0. A slice is a pointer and a length, in words or in bytes; a slice of length 0 may have any
+ * behind a pointer to 0; the one exception is a ledger's `table`, which holds the table's number beside KSK_LOOKUP and
+ * KSK_EDIT_REFUSED. A slice is a pointer and a length, in words or in bytes; a slice of length 0 may have any
  * pointer that is not NULL. No two slices or pointers of one call may overlap.
  */
 #ifndef KSK_H
@@ -96,7 +97,7 @@ uint32_t ksk_receive(uint32_t *block, size_t words, uint32_t *inbox, size_t inbo
 uint32_t ksk_missing(const uint32_t *inbox, size_t words, uint32_t *missing);
 
 /* The ledger: accounts above one version, in which open calls stand under their numbers. A call number's top eight bits are its account. Only these calls may edit that version.
- * For each account free + the sum of its open calls' minutes + spent is always what it was topped up by. */
+ * From a fresh ledger over an empty version, and with that version named in every call: for each account free + the sum of its open calls' minutes + spent is what it was topped up by. */
 
 /* Writes zeros: accounts 0 to accounts - 1 with nothing in them. */
 uint32_t ksk_ledger_fresh(uint64_t *ledger, size_t words, uint32_t accounts);

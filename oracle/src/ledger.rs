@@ -1,6 +1,7 @@
-//! The ledger: the exported calls, and document 02's text (#101) in plain Rust over an ordered map, with totals that never overflow.
+//! The ledger of document 02, #101: the operations, their exported calls, and what the document says of each.
 
-use std::collections::BTreeMap;
+pub mod plain;
+pub mod store;
 
 #[link(name = "switch", kind = "static")]
 extern "C" {
@@ -46,115 +47,100 @@ extern "C" {
 }
 
 #[derive(Clone, Copy, Debug)]
-pub enum Operation {
+pub enum Op {
+    Fresh { accounts: u32 },
     TopUp { account: u32, minutes: u64 },
-    Reserve { call: u32, minutes: u32 },
-    Settle { call: u32, used: u32 },
-    Release { call: u32 },
+    Reserve { version: u32, call: u32, minutes: u32 },
+    Settle { version: u32, call: u32, used: u32 },
+    Release { version: u32, call: u32 },
+    Account { account: u32 },
 }
 
-/// The exported call: its number, and the table's.
-pub fn run(ledger: &mut [u64], block: &mut [u32], version: u32, operation: Operation) -> (u32, u32) {
-    let (l, ls, b, bs) = (ledger.as_mut_ptr(), ledger.len(), block.as_mut_ptr(), block.len());
-    let mut table = 0xdead_beef;
-    let number = unsafe {
-        match operation {
-            Operation::TopUp { account, minutes } => {
-                table = 0;
-                ksk_ledger_top_up(l, ls, account, minutes)
+/// A call number's top eight bits.
+pub fn account_of(call: u32) -> u32 {
+    call >> 24
+}
+
+impl Op {
+    pub fn name(&self) -> &'static str {
+        match self {
+            Op::Fresh { .. } => "fresh",
+            Op::TopUp { .. } => "top-up",
+            Op::Reserve { .. } => "reserve",
+            Op::Settle { .. } => "settle",
+            Op::Release { .. } => "release",
+            Op::Account { .. } => "account",
+        }
+    }
+
+    /// The account that the operation is about.
+    pub fn account(&self) -> Option<u32> {
+        match *self {
+            Op::Fresh { .. } => None,
+            Op::TopUp { account, .. } | Op::Account { account } => Some(account),
+            Op::Reserve { call, .. } | Op::Settle { call, .. } | Op::Release { call, .. } => Some(account_of(call)),
+        }
+    }
+
+    /// The version and the call, where the table is asked.
+    pub fn place(&self) -> Option<(u32, u32)> {
+        match *self {
+            Op::Reserve { version, call, .. } | Op::Settle { version, call, .. } | Op::Release { version, call } => {
+                Some((version, call))
             }
-            Operation::Reserve { call, minutes } => ksk_ledger_reserve(l, ls, b, bs, version, call, minutes, &mut table),
-            Operation::Settle { call, used } => ksk_ledger_settle(l, ls, b, bs, version, call, used, &mut table),
-            Operation::Release { call } => ksk_ledger_release(l, ls, b, bs, version, call, &mut table),
+            _ => None,
+        }
+    }
+}
+
+/// The number, the table's number beside it, the totals topped-up, spent and free, and how many words behind the two lent
+/// slices changed. What an export has no field for is zero.
+#[derive(Clone, Copy, PartialEq, Eq, Debug, Default)]
+pub struct Answer {
+    pub number: u32,
+    pub table: u32,
+    pub totals: [u64; 3],
+    pub behind: usize,
+}
+
+/// What fields hold before a call, and what stands behind the lent slices.
+const STALE: u32 = 0xdead_beef;
+const STALE_LONG: u64 = 0xdead_beef_0bad_cafe;
+const BEHIND: usize = 4;
+
+/// Runs an operation on lent slices. The words behind them are not lent.
+pub fn run(ledger: &mut Vec<u64>, block: &mut Vec<u32>, op: &Op) -> Answer {
+    let (long, words) = (ledger.len(), block.len());
+    ledger.resize(long + BEHIND, STALE_LONG);
+    block.resize(words + BEHIND, STALE);
+    let mut answer = lend(&mut ledger[..long], &mut block[..words], op);
+    answer.behind = ledger[long..].iter().filter(|&&word| word != STALE_LONG).count();
+    answer.behind += block[words..].iter().filter(|&&word| word != STALE).count();
+    ledger.truncate(long);
+    block.truncate(words);
+    answer
+}
+
+/// The same without a look at what stands behind.
+pub fn lend(ledger: &mut [u64], block: &mut [u32], op: &Op) -> Answer {
+    let (l, long, b, words) = (ledger.as_mut_ptr(), ledger.len(), block.as_mut_ptr(), block.len());
+    let mut table = if op.place().is_some() { STALE } else { 0 };
+    let number = unsafe {
+        match *op {
+            Op::Fresh { accounts } => ksk_ledger_fresh(l, long, accounts),
+            Op::TopUp { account, minutes } => ksk_ledger_top_up(l, long, account, minutes),
+            Op::Reserve { version, call, minutes } => ksk_ledger_reserve(l, long, b, words, version, call, minutes, &mut table),
+            Op::Settle { version, call, used } => ksk_ledger_settle(l, long, b, words, version, call, used, &mut table),
+            Op::Release { version, call } => ksk_ledger_release(l, long, b, words, version, call, &mut table),
+            Op::Account { account } => return totals(ledger, account),
         }
     };
-    (number, table)
+    Answer { number, table, ..Answer::default() }
 }
 
-pub fn fresh(ledger: &mut [u64], accounts: u32) -> u32 {
-    unsafe { ksk_ledger_fresh(ledger.as_mut_ptr(), ledger.len(), accounts) }
-}
-
-pub fn account(ledger: &[u64], account: u32) -> (u32, [u64; 3]) {
-    let [mut topped, mut spent, mut free] = [0xdead_beef; 3];
+/// An account's totals, asked of a slice that is only read.
+pub fn totals(ledger: &[u64], account: u32) -> Answer {
+    let [mut topped, mut spent, mut free] = [STALE_LONG; 3];
     let number = unsafe { ksk_ledger_account(ledger.as_ptr(), ledger.len(), account, &mut topped, &mut spent, &mut free) };
-    (number, [topped, spent, free])
-}
-
-/// An account in unbounded numbers.
-#[derive(Clone, Copy, Default, Debug)]
-pub struct Account {
-    pub topped: u128,
-    pub spent: u128,
-    pub free: u128,
-}
-
-/// Accounts and open calls, nothing else. What the table says is handed in: its number for the lookup, and for the edit.
-pub struct Plain {
-    pub accounts: Vec<Account>,
-    pub calls: BTreeMap<u32, u32>,
-}
-
-const MOST: u128 = u64::MAX as u128;
-
-impl Plain {
-    /// The refusal and the table's number beside it; `edit` is asked only where all else is in order.
-    pub fn run(&mut self, operation: Operation, lookup: u32, edit: impl FnOnce() -> u32) -> Result<(), (u32, u32)> {
-        let call = match operation {
-            Operation::TopUp { account, minutes } => {
-                let account = self.accounts.get_mut(account as usize).ok_or((22, 0))?;
-                let minutes = u128::from(minutes);
-                if account.topped + minutes > MOST || account.free + minutes > MOST {
-                    return Err((28, 0));
-                }
-                account.topped += minutes;
-                account.free += minutes;
-                return Ok(());
-            }
-            Operation::Reserve { call, .. } | Operation::Settle { call, .. } | Operation::Release { call } => call,
-        };
-        let account = self.accounts.get_mut((call >> 24) as usize).ok_or((22, 0))?;
-        if lookup != 0 {
-            return Err((23, lookup));
-        }
-        let held = self.calls.get(&call).copied();
-        let (mut after, left) = (
-            *account,
-            match operation {
-                Operation::Reserve { minutes, .. } => {
-                    if held.is_some() {
-                        return Err((24, 0));
-                    }
-                    Some(minutes)
-                }
-                _ => None,
-            },
-        );
-        if let Some(minutes) = left {
-            after.free = after.free.checked_sub(u128::from(minutes)).ok_or((26, 0))?;
-        } else {
-            let held = held.ok_or((25, 0))?;
-            let used = if let Operation::Settle { used, .. } = operation { used } else { 0 };
-            let back = held.checked_sub(used).ok_or((27, 0))?;
-            after.spent += u128::from(used);
-            after.free += u128::from(back);
-            if after.spent > MOST || after.free > MOST {
-                return Err((28, 0));
-            }
-        }
-        match edit() {
-            0 => {}
-            number => return Err((29, number)),
-        }
-        *account = after;
-        match left {
-            Some(minutes) => self.calls.insert(call, minutes),
-            None => self.calls.remove(&call),
-        };
-        Ok(())
-    }
-
-    pub fn words(&self) -> Vec<u64> {
-        self.accounts.iter().flat_map(|a| [a.topped as u64, a.spent as u64, a.free as u64]).collect()
-    }
+    Answer { number, totals: [topped, spent, free], ..Answer::default() }
 }

@@ -4,6 +4,7 @@ use oracle::call::{Call, Reply};
 use oracle::exports;
 use oracle::fast;
 use oracle::frame::{Frame, INBOX};
+use oracle::ledger::{self, Op};
 use oracle::original::{self, Map};
 use oracle::passes;
 use oracle::plain;
@@ -178,6 +179,35 @@ fn reading(n: usize, rounds: usize) -> u128 {
     })).min().expect("there is a round")
 }
 
+/// A ledger's operation beside the table's own lookup and edit, one after the other: what it may cost at the least.
+fn operation(name: &str, start: &[u32], op: &Op, calls: &[Call; 2], rounds: usize) {
+    let (mut whole, mut parts) = (u128::MAX, u128::MAX);
+    let (mut looked, mut edited) = (calls[0].blank(), calls[1].blank());
+    for _ in 0..rounds {
+        let (mut ledger, mut block) = ([1000, 0, 1000], start.to_vec());
+        whole = whole.min(nanoseconds(|| assert_eq!(ledger::lend(&mut ledger, black_box(&mut block), op).number, 0)));
+        let mut block = start.to_vec();
+        parts = parts.min(nanoseconds(|| {
+            exports::run_into(black_box(&mut block), &mut [], &calls[0], &mut looked);
+            exports::run_into(black_box(&mut block), &mut [], &calls[1], &mut edited);
+        }));
+    }
+    println!("{name:42} {:6.2} {whole:13} {parts:13}", whole as f64 / parts as f64);
+}
+
+/// Reserve and settle in versions of 100 and 2,000 open calls.
+fn operations(n: usize, rounds: usize) {
+    println!("\n{:42} {:>6} {:>13} {:>13}", format!("N = {n}, the ledger"), "ratio", "operation, ns", "calls, ns");
+    for (count, reserve, settle) in [(100, "reserve, 100 calls open", "settle, 100 calls open"), (2000, "reserve, 2,000 calls open", "settle, 2,000 calls open")] {
+        let start = entries(n, count).words();
+        let lookup = |key| Call::Lookup { version: 0, key };
+        let insert = Call::Insert { dest: 0, source: 0, key: 77, value: 1 };
+        operation(reserve, &start, &Op::Reserve { version: 0, call: 77, minutes: 1 }, &[lookup(77), insert], rounds);
+        let remove = Call::Remove { dest: 0, source: 0, key: 76 };
+        operation(settle, &start, &Op::Settle { version: 0, call: 76, used: 1 }, &[lookup(76), remove], rounds);
+    }
+}
+
 fn main() {
     let rounds = std::env::args().nth(1).map_or(500, |text| text.parse().expect("rounds is a number"));
     println!("best of {rounds}; ratio = exported call / (the original's own call + the same audit in Rust)");
@@ -190,4 +220,5 @@ fn main() {
         }
         println!("{:42} {:>6} {:13}", "reading every word of the block", "", reading(n, rounds));
     }
+    operations(4096, rounds);
 }

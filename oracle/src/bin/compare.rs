@@ -1,4 +1,4 @@
-//! Compares the exported calls with the original and with document 01. Usage: compare [seed] [times]
+//! Compares the exported calls with the original and with documents 01 and 02. Usage: compare [seed] [times]
 
 use oracle::exports::ANSWERS;
 use oracle::parts::{cases, damage, exhaustive, histories, ledger, limits, lines, link, room, uneven, Compared, Effort};
@@ -19,7 +19,7 @@ const PARTS: [(&str, fn(Effort) -> Compared); 13] = [
     ("uneven trees: listings and depth", uneven::depths),
     ("damaged and cut blocks and inboxes", damage::refusals),
     ("links with loss, repeats and delay", link::sent),
-    ("ledgers", ledger::histories),
+    ("ledgers", ledger::all),
 ];
 
 fn main() -> ExitCode {

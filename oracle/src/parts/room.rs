@@ -13,7 +13,7 @@ use crate::table::Table;
 const FILLER: usize = 15;
 
 /// The table with all but `left` of its free nodes taken up; which ones stay free is drawn.
-fn filled(random: &mut Random, table: &Table, left: usize) -> Table {
+pub fn filled(random: &mut Random, table: &Table, left: usize) -> Table {
     let mut table = table.clone();
     let mut free = table.free();
     random.shuffle(&mut free);
