@@ -21,7 +21,7 @@ extern "C" {
 #define KSK_DAMAGED  2u /* block not sound, or inbox not sound */
 #define KSK_VERSION  3u /* a version number above 15 */
 #define KSK_RULE     4u /* unknown rule, or cancelling with difference rule 2 */
-#define KSK_NO_ROOM  5u /* the call would make more nodes than are free */
+#define KSK_NO_ROOM  5u /* a node was to be made and none was free; 3 free nodes for each level of the tree and one more are enough for insert and remove */
 #define KSK_TOO_DEEP 6u /* a listing walk has more than 64 pending items on one side */
 #define KSK_FRAME    7u /* line malformed */
 #define KSK_BATCH    8u /* another batch number */

@@ -102,11 +102,11 @@ fn ruled(table: &Table, supply: &mut Supply, call: &Call) -> (u32, Tree, [u32; 2
     }
 }
 
-/// The nodes that an edit makes, unused ones counted.
+/// The nodes that an edit has made and not taken apart, at the most: the room that it needs.
 pub fn makes(table: &Table, call: &Call) -> usize {
     let mut supply = Supply::new(table.free());
     ruled(table, &mut supply, call);
-    supply.made()
+    supply.most()
 }
 
 /// The edit that a frame asks for in a version.

@@ -1,5 +1,5 @@
 //! Document 01's tree rules on trees whose nodes carry their number. The original has no numbers and no room;
-//! these functions say which number each make takes and how many makes a call needs.
+//! these functions say which number each make takes and how much room a call needs.
 
 use std::rc::Rc;
 
@@ -14,32 +14,57 @@ pub struct Node {
     pub size: usize,
 }
 
-/// The numbers free at entry, lowest first. Nothing is given back during a call, so the m-th make takes the m-th of them.
+/// The numbers free now, the next make's first, and those that the call has made and not taken apart.
 pub struct Supply {
     free: Vec<u32>,
+    own: Vec<u32>,
     made: usize,
+    most: usize,
+    short: bool,
 }
 
 impl Supply {
     pub fn new(free: Vec<u32>) -> Self {
-        Supply { free, made: 0 }
+        Supply { free, own: Vec::new(), made: 0, most: 0, short: false }
     }
 
     pub fn made(&self) -> usize {
         self.made
     }
 
-    pub fn short(&self) -> bool {
-        self.made > self.free.len()
+    /// How many numbers the call had taken at once, at the most.
+    pub fn most(&self) -> usize {
+        self.most
     }
 
-    /// Makes beyond the room are counted too; their numbers are above every real one.
+    pub fn short(&self) -> bool {
+        self.short
+    }
+
+    /// Makes that find no room go on too; their numbers are above every real one.
     pub fn make(&mut self, key: u32, value: u32, left: Tree, right: Tree) -> Tree {
-        let beyond = 1_000_000 + self.made as u32;
-        let number = self.free.get(self.made).copied().unwrap_or(beyond);
+        let number = if self.free.is_empty() {
+            self.short = true;
+            1_000_000 + self.made as u32
+        } else {
+            self.free.remove(0)
+        };
         self.made += 1;
+        self.own.push(number);
+        self.most = self.most.max(self.own.len());
         let size = 1 + size(&left) + size(&right);
         Some(Rc::new(Node { number, key, value, left, right, size }))
+    }
+
+    /// A node is taken apart: one that the call made goes back at once, and what stood at entry does not.
+    fn apart(&mut self, node: &Node) {
+        if let Some(at) = self.own.iter().position(|&number| number == node.number) {
+            self.own.swap_remove(at);
+            if node.number < 1_000_000 {
+                let at = self.free.partition_point(|&number| number < node.number);
+                self.free.insert(at, node.number);
+            }
+        }
     }
 }
 
@@ -74,11 +99,13 @@ fn balanced(s: &mut Supply, key: u32, value: u32, left: Tree, right: Tree) -> Tr
 }
 
 fn rotate_left(s: &mut Supply, key: u32, value: u32, left: Tree, right: &Node) -> Tree {
+    s.apart(right);
     if weight(&right.left) < 2 * weight(&right.right) {
         let lower = s.make(key, value, left, right.left.clone());
         s.make(right.key, right.value, lower, right.right.clone())
     } else {
         let middle = right.left.as_ref().unwrap();
+        s.apart(middle);
         let lower_left = s.make(key, value, left, middle.left.clone());
         let lower_right = s.make(right.key, right.value, middle.right.clone(), right.right.clone());
         s.make(middle.key, middle.value, lower_left, lower_right)
@@ -86,11 +113,13 @@ fn rotate_left(s: &mut Supply, key: u32, value: u32, left: Tree, right: &Node) -
 }
 
 fn rotate_right(s: &mut Supply, key: u32, value: u32, left: &Node, right: Tree) -> Tree {
+    s.apart(left);
     if weight(&left.right) < 2 * weight(&left.left) {
         let lower = s.make(key, value, left.right.clone(), right);
         s.make(left.key, left.value, left.left.clone(), lower)
     } else {
         let middle = left.right.as_ref().unwrap();
+        s.apart(middle);
         let lower_left = s.make(left.key, left.value, left.left.clone(), middle.left.clone());
         let lower_right = s.make(key, value, middle.right.clone(), right);
         s.make(middle.key, middle.value, lower_left, lower_right)
@@ -106,6 +135,7 @@ fn insert_on_path(s: &mut Supply, tree: &Tree, key: u32, value: u32, known: bool
     let Some(node) = tree else {
         return s.make(key, value, None, None);
     };
+    s.apart(node);
     if key == node.key {
         return s.make(key, value, node.left.clone(), node.right.clone());
     }
@@ -123,6 +153,7 @@ fn insert_on_path(s: &mut Supply, tree: &Tree, key: u32, value: u32, known: bool
 
 /// The minimum's key and value, and the tree without it.
 fn remove_min(s: &mut Supply, node: &Node) -> (u32, u32, Tree) {
+    s.apart(node);
     match &node.left {
         None => (node.key, node.value, node.right.clone()),
         Some(left) => {
@@ -140,6 +171,7 @@ pub fn remove(s: &mut Supply, tree: &Tree, key: u32) -> Tree {
 }
 
 fn remove_existing(s: &mut Supply, node: &Node, key: u32) -> Tree {
+    s.apart(node);
     if key < node.key {
         let left = remove_existing(s, node.left.as_ref().unwrap(), key);
         return balanced(s, node.key, node.value, left, node.right.clone());
@@ -161,10 +193,12 @@ fn remove_existing(s: &mut Supply, node: &Node, key: u32) -> Tree {
 fn join(s: &mut Supply, left: Tree, key: u32, value: u32, right: Tree) -> Tree {
     if size(&right) > 3 * size(&left) {
         let top = right.unwrap();
+        s.apart(&top);
         let lower = join(s, left, key, value, top.left.clone());
         balanced(s, top.key, top.value, lower, top.right.clone())
     } else if size(&left) > 3 * size(&right) {
         let top = left.unwrap();
+        s.apart(&top);
         let lower = join(s, top.right.clone(), key, value, right);
         balanced(s, top.key, top.value, top.left.clone(), lower)
     } else {
@@ -186,6 +220,7 @@ fn split(s: &mut Supply, tree: &Tree, key: u32) -> (Tree, Option<u32>, Tree) {
     let Some(node) = tree else {
         return (None, None, None);
     };
+    s.apart(node);
     if key == node.key {
         (node.left.clone(), Some(node.value), node.right.clone())
     } else if key < node.key {
@@ -223,12 +258,14 @@ pub fn union(s: &mut Supply, left: &Tree, right: &Tree, rule: u32) -> Tree {
         return left.clone().or(right.clone());
     };
     if l.size >= r.size {
+        s.apart(l);
         let (before, found, after) = split(s, right, l.key);
         let value = found.map_or(l.value, |other| merged(rule, l.value, other));
         let lower = union(s, &l.left, &before, rule);
         let upper = union(s, &l.right, &after, rule);
         join(s, lower, l.key, value, upper)
     } else {
+        s.apart(r);
         let (before, found, after) = split(s, left, r.key);
         let value = found.map_or(r.value, |other| merged(rule, other, r.value));
         let lower = union(s, &before, &r.left, rule);
@@ -244,6 +281,7 @@ pub fn difference(s: &mut Supply, left: &Tree, right: &Tree, rule: u32, cancel: 
     if cancel && l.number == r.number {
         return None;
     }
+    s.apart(l);
     let (before, found, after) = split(s, right, l.key);
     let lower = difference(s, &l.left, &before, rule, cancel);
     let upper = difference(s, &l.right, &after, rule, cancel);

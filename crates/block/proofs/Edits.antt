@@ -1,5 +1,5 @@
 -- A call from entry to exit, whatever its rule: carried out, or refused for room with every word as at entry.
-use mathlib.Core.Path.{_≡_, ap, _∙_}
+use mathlib.Core.Path.{_≡_, ap, sym, _∙_}
 use mathlib.Core.Logic.{_≢_}
 use Prim.Native.Nat.{ℕ, _<_}
 use mathlib.Core.Bool.{false}
@@ -9,25 +9,21 @@ use Rattle.model.specs.Tree.{Tree, Ordered}
 use Rattle.model.specs.Supply.{Make, short}
 use Rattle.model.specs.Heap.{tree, version, supply}
 use Rattle.model.specs.Block.{heap, Words, SoundBlock}
-use Rattle.model.specs.Moves.{Grown, FullBelow, HeldBelow, Swept, Finished}
+use Rattle.model.specs.Moves.{Over, Holds, Holding, Gives, Turned, FullBelow, HeldBelow, Swept, Finished}
 use Rattle.model.specs.Calls.{Edited, Refused, Carried}
 use Rattle.model.proofs.Sorts.{sound-by-versions}
 use Rattle.model.proofs.Pinned.{undone}
 use Rattle.model.proofs.Growing.{stocked-supply}
-use Rattle.model.proofs.Versions.{version-ordered, grown-version, gave-version}
+use Rattle.model.proofs.Versions.{sound-running, version-ordered, gave-version}
+use Rattle.model.proofs.Pieces.{AllNamed, start-holds, over-version}
 use Rattle.model.proofs.Ends.{held-from}
 use Rattle.block.specs.declared.Made.{Made}
 use Rattle.block.specs.declared.Made.the-variants.{At, Full}
-use Rattle.block.specs.Outcome.{Outcome}
-use Rattle.block.proofs.Outcomes.{out-tree}
+use Rattle.block.specs.Outcome.{treeAt, pieceOf, Outcome}
 
 module _ {b : List ℕ} (B : SoundBlock b) where
-  -- the nodes below those that the call made have references
-  pub held : {e : List ℕ} {q : Made} {rule : Make Tree} {from : ℕ} → FullBelow (heap b) from → Outcome b e q rule → HeldBelow (heap e) from
-  held F O = held-from (B .sound .kept) F (O .came .grown) (O .came .running)
-
   -- the end of a call in which version d became t
-  ended : {e after : List ℕ} {d n : ℕ} {t : Tree} → Grown (heap b) (heap e) → tree (heap e) n ≡ t → Ordered t → Finished e after d n → Edited b after d t
+  ended : {e after : List ℕ} {d n : ℕ} {t : Tree} → Over (heap b) (heap e) → tree (heap e) n ≡ t → Ordered t → Finished e after d n → Edited b after d t
   ended {e} {after} {d} {n} {t} G is o F = record {
     sound = record { shaped = F .shaped; sound = sound-by-versions (heap after) (F .kept) (λ v lt. ordered v lt (ℕ-discrete v d)) };
     room-kept = F .room-kept ∙ G .room;
@@ -36,24 +32,45 @@ module _ {b : List ℕ} (B : SoundBlock b) where
   }
     where
       others : (v : ℕ) → v < 16 → v ≢ d → version (heap after) v ≡ version (heap b) v
-      others v lt ne = F .others v lt ne ∙ grown-version (B .sound .kept .linked) G v lt
+      others v lt ne = F .others v lt ne ∙ over-version (B .sound .kept .linked) G v lt
 
       ordered : (v : ℕ) → v < 16 → Dec (v ≡ d) → Ordered (version (heap after) v)
       ordered v lt (yes p) = rw (ap (version (heap after)) p ∙ F .here ∙ is) o
       ordered v lt (no p) = rw (others v lt p) (version-ordered (B .sound) v lt)
 
+module _ {b : List ℕ} (B : SoundBlock b) (ps : List ℕ) (N : AllNamed (heap b) ps) where
+  begins : Holds (heap b) (heap b) ps (λ n. 0)
+  begins = start-holds (heap b) ps (B .sound .kept) N
+
+  -- what the call holds at entry
+  pub start : Holding b ps
+  start = record { running = sound-running B; entry = heap b; holds = begins }
+
+  turned : {e : List ℕ} {q : Made} {rule : Make Tree} → Outcome b e ps q rule → Turned (heap b) (heap b) (heap e) (pieceOf q) (λ n. 0)
+  turned O = O .came .turned (heap b) (λ n. 0) begins
+
+  gives : {e : List ℕ} {q : Made} {rule : Make Tree} → Outcome b e ps q rule → Gives (heap b) (heap e) (treeAt (heap e) q) (rule (supply (heap b)))
+  gives O = O .came .gives (heap b) (λ n. 0) begins (supply (heap b)) (stocked-supply (heap b))
+
+  over : {e : List ℕ} {q : Made} {rule : Make Tree} → Outcome b e ps q rule → Over (heap b) (heap e)
+  over O = turned O .holds .over
+
+  -- the nodes below those that the call made have references
+  pub held : {e : List ℕ} {q : Made} {rule : Make Tree} {from : ℕ} → FullBelow (heap b) from → Outcome b e ps q rule → HeldBelow (heap e) from
+  held F O = held-from F (turned O .holds) (O .came .running)
+
   -- success is never short of room
-  pub enough : {e : List ℕ} {n : ℕ} {rule : Make Tree} → Outcome b e (At n) rule → short (rule (supply (heap b)) .1) ≡ false
-  enough O = O .came .gives (supply (heap b)) (stocked-supply (heap b)) .1 .enough
+  pub enough : {e : List ℕ} {n : ℕ} {rule : Make Tree} → Outcome b e ps (At n) rule → short (rule (supply (heap b)) .1) ≡ false
+  enough O = gives O .1 .enough
 
-  pub carried : {e after : List ℕ} {d n : ℕ} {rule : Make Tree} → Outcome b e (At n) rule → Ordered (rule (supply (heap b)) .0) → Finished e after d n → Carried b after d rule
-  carried {e} {after} {d} {n} {rule} O o F = record { enough = enough O; edited = ended (O .came .grown) (out-tree b e n rule O) o F }
+  pub carried : {e after : List ℕ} {d n : ℕ} {rule : Make Tree} → Outcome b e ps (At n) rule → Ordered (rule (supply (heap b)) .0) → Finished e after d n → Carried b after d rule
+  carried {e} {after} {d} {n} {rule} O o F = record { enough = enough O; edited = ended B (over O) (sym (gives O .0)) o F }
 
-  pub refused : {e after : List ℕ} {rule : Make Tree} → Outcome b e Full rule → Swept e after → Words b → Words after → Refused b after rule
-  refused {e} {after} {rule} O W wb wa = record { short = O .came .gives (supply (heap b)) (stocked-supply (heap b)); same = undone b after B sound (W .gave .room ∙ O .came .grown .room) same wb wa }
+  pub refused : {e after : List ℕ} {rule : Make Tree} → Outcome b e ps Full rule → Swept e after → Words b → Words after → Refused b after rule
+  refused {e} {after} {rule} O W wb wa = record { short = gives O; same = undone b after B sound (W .gave .room ∙ over O .room) same wb wa }
     where
       same : (v : ℕ) → v < 16 → version (heap after) v ≡ version (heap b) v
-      same v lt = gave-version (W .gave) v lt ∙ grown-version (B .sound .kept .linked) (O .came .grown) v lt
+      same v lt = gave-version (W .gave) v lt ∙ over-version (B .sound .kept .linked) (over O) v lt
 
       sound : SoundBlock after
       sound = record { shaped = W .shaped; sound = sound-by-versions (heap after) (W .kept) (λ v lt. rw (same v lt) (version-ordered (B .sound) v lt)) }

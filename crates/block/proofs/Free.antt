@@ -12,7 +12,8 @@ use lib.Dec.{eqb}
 use lib.Count.{trailingZeros, trailing-of-zero}
 use borrow.Author.Tests.{lt-ltb}
 use Rattle.model.specs.Block.{word, room, bit, occupiedAt, Words}
-use Rattle.model.specs.Heap.{freeFrom, firstOf}
+use Rattle.model.specs.Supply.{firstOf}
+use Rattle.model.specs.Heap.{freeFrom}
 use Rattle.block.specs.Words.{FullWords}
 use Rattle.model.proofs.Bits.{below-all-set, at-clear}
 

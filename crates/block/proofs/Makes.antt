@@ -3,7 +3,7 @@ use mathlib.Core.Path.{_≡_, refl, ap, sym, _∙_}
 use mathlib.Core.Logic.{_≢_}
 use Prim.Native.Nat.{ℕ, zero, suc, _+_, _*_, _/_, _≤_, _<_}
 use mathlib.Core.Bool.{true, false, true≢false}
-use mathlib.Core.List.{List, _∷_}
+use mathlib.Core.List.{List, [], _∷_}
 use lib.ListN.{drop}
 use native.Mathlib.Omega.{arith}
 use native.Mathlib.Decide.{ℕ-discrete}
@@ -132,7 +132,7 @@ module _ {b e : List ℕ} {n k v l r : ℕ} (M : Making b e n k v l r) where
           blanks zero z ne = refl
           blanks (suc m) z ne = omega (arith, raised (suc m) (omega arith), W .words 5 (suc m) (omega arith) ne, miss l m (M .left) z, miss r m (M .right) z)
 
-      pub makes : Outcome b g (At n) (make k v (tree (heap b) l) (tree (heap b) r))
+      pub makes : Outcome b g (l ∷ r ∷ []) (At n) (make k v (tree (heap b) l) (tree (heap b) r))
       makes =
           let key = C .1 .same .key n ∙ A .1 .same .key n ∙ W .here 0 (omega arith) in
           let value = C .1 .same .value n ∙ A .1 .same .value n ∙ W .here 1 (omega arith) in

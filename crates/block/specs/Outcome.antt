@@ -5,7 +5,7 @@ use Rattle.model.specs.Supply.{Make}
 use Rattle.model.specs.Heap.{Heap, Named, tree}
 use Rattle.model.specs.Block.{heap}
 use Rattle.model.specs.Moves.{Came}
-use mathlib.Core.List.{List}
+use mathlib.Core.List.{List, [], _∷_}
 use mathlib.Core.Option.{Option, none, some}
 use Rattle.block.specs.declared.Node.{Node}
 use Rattle.block.specs.declared.Found.{Found}
@@ -28,10 +28,15 @@ abbrev pub Stands : Heap → Made → Type 0
 Stands g (At n) = Named g n
 Stands g Full = Unit {0}
 
--- b became e by the rule m: its tree is below the answer, or m makes more nodes than are free in b
-pub record Outcome (b e : List ℕ) (q : Made) (m : Make Tree) : Type 0 where
+-- the piece that was made
+abbrev pub pieceOf : Made → List ℕ
+pieceOf (At n) = n ∷ []
+pieceOf Full = []
+
+-- b became e by the rule m, of the pieces ps: its tree is below the answer, or a make of m finds no free node
+pub record Outcome (b e ps : List ℕ) (q : Made) (m : Make Tree) : Type 0 where
   pub named : Stands (heap e) q
-  pub came : Came Tree b e (treeAt (heap e) q) m
+  pub came : Came Tree b e ps (pieceOf q) (treeAt (heap e) q) m
 
 -- node n without its size and count
 abbrev pub nodeOf : Heap → ℕ → Node

@@ -12,7 +12,7 @@ ghost use Rattle.model.specs.Moves.{Lowered, Emptied, Owed, Paid, Unnamed, Free
 ghost use Rattle.model.specs.Block.{heap, room, nodeWord, Shaped};
 
 // One reference fewer to node n: the count that is left.
-fn lower(b: &mut [u32], n: u32) -> u32
+pub fn lower(b: &mut [u32], n: u32) -> u32
     requires { ⌜ Shaped (now b) × Linked (heap (now b)) × Occupied (heap (now b)) n × (1 ≤ nodeWord (now b) 5 n) ⌝ }
     ensures { λ r. ⌜ Shaped (now (b .exit)) × Lowered (heap (now (b .entry))) (heap (now (b .exit))) n × (r ≡ nodeWord (now (b .exit)) 5 n) ⌝ }
 {
@@ -22,7 +22,7 @@ fn lower(b: &mut [u32], n: u32) -> u32
 }
 
 // Node n becomes unoccupied and six zeros.
-fn clear(b: &mut [u32], n: u32)
+pub fn clear(b: &mut [u32], n: u32)
     requires { ⌜ Shaped (now b) × Occupied (heap (now b)) n ⌝ }
     ensures { λ r. ⌜ Shaped (now (b .exit)) × Emptied (heap (now (b .entry))) (heap (now (b .exit))) n ⌝ }
 {

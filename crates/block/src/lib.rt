@@ -1,4 +1,5 @@
 // Nodes of the block: reading and making them. The end of a call is in ends.
+pub mod apart;
 pub mod ends;
 mod words;
 
@@ -9,7 +10,8 @@ ghost use mathlib.Core.Path.{_≡_};
 ghost use mathlib.Core.Bool.{true};
 ghost use Prim.Native.Nat.{ℕ, suc, _+_, _-_, _*_, _/_, _<_, _≤_};
 ghost use Rattle.model.specs.Heap.{Named, sizeAt, tree, Linked, freeFrom, lowest};
-ghost use Rattle.model.specs.Moves.{Raised, Running, FullBelow};
+ghost use mathlib.Core.List.{[], _∷_};
+ghost use Rattle.model.specs.Moves.{Raised, Holding, FullBelow};
 ghost use Rattle.model.specs.Block.{heap, room, nodeWord, occupiedAt, Shaped};
 ghost use Rattle.model.specs.Supply.{make};
 ghost use Rattle.block.specs.Words.{FullWords};
@@ -148,8 +150,8 @@ pub fn makes_from(b: &[u32]) -> u32
 
 // Makes the node of key, value, left and right. Nothing names it yet, so its count is 0.
 pub fn make(b: &mut [u32], key: u32, value: u32, left: u32, right: u32) -> Made
-    requires { ⌜ Running (now b) × Named (heap (now b)) left × Named (heap (now b)) right × (sizeAt (heap (now b)) left + sizeAt (heap (now b)) right < 1048576) ⌝ }
-    ensures { λ r. ⌜ Outcome (now (b .entry)) (now (b .exit)) r (make key value (tree (heap (now (b .entry))) left) (tree (heap (now (b .entry))) right)) ⌝ }
+    requires { ⌜ Holding (now b) (left ∷ right ∷ []) × Named (heap (now b)) left × Named (heap (now b)) right × (sizeAt (heap (now b)) left + sizeAt (heap (now b)) right < 1048576) ⌝ }
+    ensures { λ r. ⌜ Outcome (now (b .entry)) (now (b .exit)) (left ∷ right ∷ []) r (make key value (tree (heap (now (b .entry))) left) (tree (heap (now (b .entry))) right)) ⌝ }
 {
     let n = lowest_free(b);
     if n == 0 {

@@ -38,15 +38,16 @@ fn fill(b: &mut [u32], version: u32, n: u32) {
     }
 }
 
-// Beside two trees of 12 and the chain 1, 2, 3, five of 32 nodes are free: as many as the insert of 4 makes.
+// Beside two trees of 12, one of 1 and the chain 1, 2, 3, four of 32 nodes are free. The insert of 4 makes five, and takes one of them apart before it makes the last two.
 fn exact_room() {
     let mut b = [0u32; 210];
     fresh(&mut b, 32);
     fill(&mut b, 1, 12);
     fill(&mut b, 2, 12);
+    fill(&mut b, 3, 1);
     fill(&mut b, 0, 3);
     let mut crowded = b;
-    insert(&mut crowded, 3, 3, 9, 9);
+    insert(&mut crowded, 4, 4, 9, 9);
     show(b"case 10: exact room", insert(&mut b, 0, 0, 4, 4));
     show(b", one fewer", insert(&mut crowded, 0, 0, 4, 4));
     text(b"\n");

@@ -1,56 +1,25 @@
 -- Join is right because each level follows the rule by the same sizes: it joins below, then makes the node above, and stops where that finds no room.
 use mathlib.Core.Path.{_≡_, refl, ap}
 use Prim.Native.Nat.{ℕ, _+_, _*_, _≤_, _<_}
-use mathlib.Core.List.{List}
+use mathlib.Core.List.{List, [], _∷_}
 use borrow.Author.Tests.{lt-ltb, le-ltb}
 use native.Mathlib.Omega.{arith}
 use Rattle.model.specs.Tree.{Tree, leaf, node, size}
-use Rattle.model.specs.Supply.{Supply, Make, apart, _>>=_, _>>_}
+use Rattle.model.specs.Supply.{Make, apart, _>>=_, _>>_}
 use Rattle.model.specs.Rules.{balanced, join}
-use Rattle.model.specs.Heap.{Named, sizeAt, tree, supply}
+use Rattle.model.specs.Heap.{Named, sizeAt, tree}
 use Rattle.model.specs.Block.{heap}
-use Rattle.model.specs.Moves.{Running}
+use Rattle.model.specs.Moves.{held, Holding, Still}
 use Rattle.model.proofs.Loads.{tree-size}
+use Rattle.model.proofs.Growing.{holding-less}
 use Rattle.model.proofs.Sizes.{join-size}
-use Rattle.model.proofs.Steady.{Onward, onward, join-steady}
+use Rattle.model.proofs.Steady.{balanced-onward}
 use Rattle.block.specs.declared.Made.{Made}
 use Rattle.block.specs.declared.Made.the-variants.{At, Full}
 use Rattle.block.specs.declared.Node.{Node}
-use Rattle.block.specs.Outcome.{Outcome, nodeOf}
-use Rattle.block.proofs.Outcomes.{out-stop, out-apart, out-size}
-use Rattle.block.proofs.Levels.{Asks, Level, read-tree, read-left, read-right, read-size, sized-occupied, then-left, then-right, out-then}
-use Rattle.tree.proofs.Removes.{balanced-onward}
-
-pub join-onward : (k v : ℕ) (l r : Tree) → Onward (join k v l r)
-join-onward k v l r = onward (join k v l r) (join-steady k v l r)
-
--- a rule that takes node i apart, does low, and makes above it the top of what came and of c, which stays
-pub record Spine (b : List ℕ) (goal low : Make Tree) (top : Tree → Tree → Make Tree) (i c : ℕ) : Type 0 where
-  pub running : Running b
-  pub stays : Named (heap b) c
-  pub small : (s : Supply) → size (low s .0) + sizeAt (heap b) c < 1048576
-  pub onward : (t : Tree) → Onward (top t (tree (heap b) c))
-  pub is : goal ≡ (apart i >> (low >>= λ t. top t (tree (heap b) c)))
-
-module _ {b : List ℕ} {goal low : Make Tree} {top : Tree → Tree → Make Tree} {i c : ℕ} (S : Spine b goal low top i c) where
-  abbrev above : Tree → Make Tree
-  above t = top t (tree (heap b) c)
-
-  pub spine-stop : {e : List ℕ} → Outcome b e Full low → Outcome b e Full goal
-  spine-stop {e} O = rw (S .is) (out-apart b e i Full (low >>= above) (out-stop b e low above O (S .onward)))
-
-  module _ {e : List ℕ} {a : ℕ} (O : Outcome b e (At a) low) where
-    bound : sizeAt (heap e) a + sizeAt (heap b) c < 1048576
-    bound = omega (arith, out-size b e a low O, S .small (supply (heap b)))
-
-    pub spine-left : Asks e a c
-    spine-left = then-left (S .running) O c (S .stays) bound
-
-    pub spine-right : Asks e c a
-    spine-right = then-right (S .running) O c (S .stays) (omega (arith, bound))
-
-    pub spine-done : {f : List ℕ} {q : Made} → Outcome e f q (top (tree (heap e) a) (tree (heap e) c)) → Outcome b f q goal
-    spine-done {f} {q} P = rw (S .is) (out-apart b f i q (low >>= above) (out-then top c (S .stays) O P))
+use Rattle.block.specs.Outcome.{Outcome}
+use Rattle.block.proofs.Outcomes.{stock, out-size}
+use Rattle.block.proofs.Levels.{Asks, Level, read-tree, read-left, read-right, read-size, level-holds, level-still, level-out, then-left, then-right, Above}
 
 -- the rule by sizes alone
 module _ (k v : ℕ) where
@@ -71,57 +40,80 @@ module _ (k v : ℕ) where
   neither (node i h w ll lr) leaf p q = absurd (omega arith)
   neither (node i h w ll lr) (node j g u rl rr) p q = rw (le-ltb (3 * size (node i h w ll lr)) (size (node j g u rl rr)) p, join) (rw (le-ltb (3 * size (node j g u rl rr)) (size (node i h w ll lr)) q))
 
--- the larger side m is over 3 times the other, o, and has been read: it is n
-pub record Larger (b : List ℕ) (m o : ℕ) (n : Node) : Type 0 where
-  pub running : Running b
-  pub larger : Named (heap b) m
-  pub other : Named (heap b) o
+-- the larger side m is over 3 times the other, o, and was taken apart from b to c: it is n
+pub record Larger (b c : List ℕ) (m o : ℕ) (n : Node) : Type 0 where
+  pub level : Level b c m n
+  pub holding : Holding b (m ∷ o ∷ [])
   pub small : sizeAt (heap b) m + sizeAt (heap b) o < 1048576
   pub over : 3 * sizeAt (heap b) o < sizeAt (heap b) m
-  pub is : n ≡ nodeOf (heap b) m
 
-module _ {b : List ℕ} {m o : ℕ} {n : Node} (D : Larger b m o n) where
-  at : Level b m n
-  at = record { running = D .running; occupied = sized-occupied (heap b) m (D .larger) (omega (arith, D .over)); is = D .is }
+module _ {b c : List ℕ} {m o : ℕ} {n : Node} (D : Larger b c m o n) where
+  S : Still b c o
+  unfolding held
+  S = level-still (D .level) (D .holding) o (λ x i. omega arith)
 
-  sized : (x : ℕ) → Named (heap b) x → size (tree (heap b) x) ≡ sizeAt (heap b) x
-  sized x p = tree-size (heap b) (D .running .linked) x p
+  -- the three pieces
+  J : Holding c (o ∷ n .left ∷ n .right ∷ [])
+  unfolding held
+  J = level-holds (D .level) (D .holding) (o ∷ []) (λ x i. omega arith) (λ x i. omega arith)
 
-  over-trees : 3 * size (tree (heap b) o) < size (node m (n .key) (n .value) (tree (heap b) (n .left)) (tree (heap b) (n .right)))
-  over-trees = omega (arith, D .over, sized o (D .other), sized m (D .larger), ap size (read-tree at))
+  sized : (x : ℕ) → Named (heap c) x → size (tree (heap c) x) ≡ sizeAt (heap c) x
+  sized x p = tree-size (heap c) (J .running .linked) x p
+
+  over-trees : 3 * size (tree (heap c) o) < size (node m (n .key) (n .value) (tree (heap c) (n .left)) (tree (heap c) (n .right)))
+  unfolding size
+  over-trees = omega (arith, D .over, sized o (S .named), S .size, sized (n .left) (read-left (D .level)), sized (n .right) (read-right (D .level)), read-size (D .level))
+
+  bound : sizeAt (heap c) o + sizeAt (heap c) (n .left) + sizeAt (heap c) (n .right) + 1 < 1048576
+  bound = omega (arith, D .small, S .size, read-size (D .level))
 
 -- down the right's left spine
-module _ {b : List ℕ} {l r : ℕ} {n : Node} (D : Larger b r l n) where
-  pub right-asks : {t : ℕ} → sizeAt (heap b) l + sizeAt (heap b) r ≡ t → (sizeAt (heap b) l + sizeAt (heap b) (n .left) < t) × Asks b l (n .left)
-  right-asks e = let z = read-size (at D) in (omega (arith, z), (D .running, D .other, read-left (at D), omega (arith, z, D .small)))
+module _ {b c : List ℕ} {l r : ℕ} {n : Node} (D : Larger b c r l n) where
+  pub right-asks : {t : ℕ} → sizeAt (heap b) l + sizeAt (heap b) r ≡ t → (sizeAt (heap c) l + sizeAt (heap c) (n .left) < t) × Asks c l (n .left)
+  unfolding held
+  right-asks e = (omega (arith, read-size (D .level), S D .size), (holding-less (J D) (λ x i. omega arith), S D .named, read-left (D .level), omega (arith, bound D)))
 
-  pub right-spine : (k v : ℕ) → Spine b (join k v (tree (heap b) l) (tree (heap b) r)) (join k v (tree (heap b) l) (tree (heap b) (n .left))) (λ t u. balanced (n .key) (n .value) t u) r (n .right)
-  right-spine k v = let x = tree (heap b) (n .left) in let y = tree (heap b) (n .right) in record {
-    running = D .running;
-    stays = read-right (at D);
-    small = λ s. omega (arith, join-size k v (tree (heap b) l) x s, sized D l (D .other), sized D (n .left) (read-left (at D)), read-size (at D), D .small);
-    onward = λ t. balanced-onward (n .key) (n .value) t y;
-    is = rw (read-tree (at D)) (right-larger k v (tree (heap b) l) r (n .key) (n .value) x y (over-trees D));
-  }
+  module _ (k v : ℕ) where
+    pub right-spine : Above b c (l ∷ r ∷ []) (l ∷ n .left ∷ []) (join k v (tree (heap b) l) (tree (heap b) r)) (join k v (tree (heap c) l) (tree (heap c) (n .left))) (λ t u. balanced (n .key) (n .value) t u) (n .right)
+    unfolding held
+    right-spine = let x = tree (heap c) (n .left) in let y = tree (heap c) (n .right) in record {
+      holds = holding-less (J D) (λ x i. omega arith);
+      onward = λ t. balanced-onward (n .key) (n .value) t y;
+      by = λ e q O. rw (← S D .tree, read-tree (D .level)) (rw (right-larger k v (tree (heap c) l) r (n .key) (n .value) x y (over-trees D)) (level-out (D .level) (l ∷ []) (λ x i. omega arith) (λ x i. omega arith) O));
+    }
+
+    -- what the make above asks
+    pub right-next : {d : List ℕ} {a : ℕ} → Outcome c d (l ∷ n .left ∷ []) (At a) (join k v (tree (heap c) l) (tree (heap c) (n .left))) → Asks d a (n .right)
+    unfolding held
+    right-next {d} {a} O =
+        let rule = join k v (tree (heap c) l) (tree (heap c) (n .left)) in
+        then-left (J D) O (n .right) (λ x i. omega arith) (omega (arith, out-size c d a rule (J D) (λ x i. omega arith) O, join-size k v (tree (heap c) l) (tree (heap c) (n .left)) (stock (J D)), sized D l (S D .named), sized D (n .left) (read-left (D .level)), bound D))
 
 -- down the left's right spine
-module _ {b : List ℕ} {l r : ℕ} {n : Node} (D : Larger b l r n) where
-  pub left-asks : {t : ℕ} → sizeAt (heap b) l + sizeAt (heap b) r ≡ t → (sizeAt (heap b) (n .right) + sizeAt (heap b) r < t) × Asks b (n .right) r
-  left-asks e = let z = read-size (at D) in (omega (arith, z), (D .running, read-right (at D), D .other, omega (arith, z, D .small)))
+module _ {b c : List ℕ} {l r : ℕ} {n : Node} (D : Larger b c l r n) where
+  pub left-asks : {t : ℕ} → sizeAt (heap b) l + sizeAt (heap b) r ≡ t → (sizeAt (heap c) (n .right) + sizeAt (heap c) r < t) × Asks c (n .right) r
+  unfolding held
+  left-asks e = (omega (arith, read-size (D .level), S D .size), (holding-less (J D) (λ x i. omega arith), read-right (D .level), S D .named, omega (arith, bound D)))
 
-  pub left-spine : (k v : ℕ) → Spine b (join k v (tree (heap b) l) (tree (heap b) r)) (join k v (tree (heap b) (n .right)) (tree (heap b) r)) (λ t u. balanced (n .key) (n .value) u t) l (n .left)
-  left-spine k v = let x = tree (heap b) (n .left) in let y = tree (heap b) (n .right) in record {
-    running = D .running;
-    stays = read-left (at D);
-    small = λ s. omega (arith, join-size k v y (tree (heap b) r) s, sized D r (D .other), sized D (n .right) (read-right (at D)), read-size (at D), D .small);
-    onward = λ t. balanced-onward (n .key) (n .value) x t;
-    is = rw (read-tree (at D)) (left-larger k v l (n .key) (n .value) x y (tree (heap b) r) (over-trees D));
-  }
+  module _ (k v : ℕ) where
+    pub left-spine : Above b c (l ∷ r ∷ []) (n .right ∷ r ∷ []) (join k v (tree (heap b) l) (tree (heap b) r)) (join k v (tree (heap c) (n .right)) (tree (heap c) r)) (λ t u. balanced (n .key) (n .value) u t) (n .left)
+    unfolding held
+    left-spine = let x = tree (heap c) (n .left) in let y = tree (heap c) (n .right) in record {
+      holds = holding-less (J D) (λ x i. omega arith);
+      onward = λ t. balanced-onward (n .key) (n .value) x t;
+      by = λ e q O. rw (← S D .tree, read-tree (D .level)) (rw (left-larger k v l (n .key) (n .value) x y (tree (heap c) r) (over-trees D)) (level-out (D .level) (r ∷ []) (λ x i. omega arith) (λ x i. omega arith) O));
+    }
+
+    pub left-next : {d : List ℕ} {a : ℕ} → Outcome c d (n .right ∷ r ∷ []) (At a) (join k v (tree (heap c) (n .right)) (tree (heap c) r)) → Asks d (n .left) a
+    unfolding held
+    left-next {d} {a} O =
+        let rule = join k v (tree (heap c) (n .right)) (tree (heap c) r) in
+        then-right (J D) O (n .left) (λ x i. omega arith) (omega (arith, out-size c d a rule (J D) (λ x i. omega arith) O, join-size k v (tree (heap c) (n .right)) (tree (heap c) r) (stock (J D)), sized D r (S D .named), sized D (n .right) (read-right (D .level)), bound D))
 
 -- neither side is over 3 times the other
 pub even : {b e : List ℕ} {q : Made} (k v l r : ℕ) → Asks b l r → sizeAt (heap b) r ≤ 3 * sizeAt (heap b) l → sizeAt (heap b) l ≤ 3 * sizeAt (heap b) r
-    → Outcome b e q (balanced k v (tree (heap b) l) (tree (heap b) r)) → Outcome b e q (join k v (tree (heap b) l) (tree (heap b) r))
+    → Outcome b e (l ∷ r ∷ []) q (balanced k v (tree (heap b) l) (tree (heap b) r)) → Outcome b e (l ∷ r ∷ []) q (join k v (tree (heap b) l) (tree (heap b) r))
 even {b} k v l r A p q O =
-    let x = tree-size (heap b) (A .0 .linked) l (A .1) in
-    let y = tree-size (heap b) (A .0 .linked) r (A .2) in
+    let x = tree-size (heap b) (A .0 .running .linked) l (A .1) in
+    let y = tree-size (heap b) (A .0 .running .linked) r (A .2) in
     rw (neither k v (tree (heap b) l) (tree (heap b) r) (omega (arith, x, y)) (omega (arith, x, y))) O

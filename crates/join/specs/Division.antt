@@ -1,6 +1,6 @@
 -- What a split gives back.
 use Prim.Native.Nat.{ℕ}
-use mathlib.Core.List.{List}
+use mathlib.Core.List.{List, [], _∷_}
 use mathlib.Core.Option.{Option, none, some}
 use Rattle.model.specs.Supply.{Make}
 use Rattle.model.specs.Rules.{Parts}
@@ -35,8 +35,13 @@ abbrev pub rightOf : Parted → ℕ
 rightOf (Into p) = p .right
 rightOf Full = 0
 
--- b became e by the rule m: its parts are below the pieces, or m makes more nodes than are free in b
-pub record Division (b e : List ℕ) (q : Parted) (m : Make Parts) : Type 0 where
+-- the two pieces
+abbrev pub piecesOf : Parted → List ℕ
+piecesOf (Into p) = p .left ∷ p .right ∷ []
+piecesOf Full = []
+
+-- b became e by the rule m, of the pieces ps: its parts are below the pieces, or a make of m finds no free node
+pub record Division (b e ps : List ℕ) (q : Parted) (m : Make Parts) : Type 0 where
   pub left : Named (heap e) (leftOf q)
   pub right : Named (heap e) (rightOf q)
-  pub came : Came Parts b e (partsAt (heap e) q) m
+  pub came : Came Parts b e ps (piecesOf q) (partsAt (heap e) q) m

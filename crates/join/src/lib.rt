@@ -1,7 +1,7 @@
 // Two trees joined around an entry or without one, and a tree split at a key.
 use block::Found;
 use block::Made;
-use block::read;
+use block::apart::take_apart;
 use block::size_at;
 use tree::Lost;
 use tree::balanced;
@@ -10,27 +10,28 @@ ghost use mathlib.Core.Path.{_≡_};
 ghost use Prim.Native.Nat.{ℕ, _+_, _<_};
 ghost use Rattle.model.specs.Heap.{Named, sizeAt, tree};
 ghost use Rattle.model.specs.Block.{heap};
-ghost use Rattle.model.specs.Moves.{Running};
+ghost use mathlib.Core.List.{[], _∷_};
+ghost use Rattle.model.specs.Moves.{Holding};
 ghost use Rattle.model.specs.Rules.{join, split, withoutKey};
 ghost use Rattle.block.specs.Outcome.{Outcome};
 ghost use Rattle.join.specs.Division.{Division, into};
 
 // Goes down the larger side's spine until neither side is over 3 times the other: there one balanced make will do.
 pub fn join(b: &mut [u32], key: u32, value: u32, left: u32, right: u32) -> Made
-    requires { ⌜ Running (now b) × Named (heap (now b)) left × Named (heap (now b)) right × (sizeAt (heap (now b)) left + sizeAt (heap (now b)) right < 1048576) ⌝ }
-    ensures { λ r. ⌜ Outcome (now (b .entry)) (now (b .exit)) r (join key value (tree (heap (now (b .entry))) left) (tree (heap (now (b .entry))) right)) ⌝ }
+    requires { ⌜ Holding (now b) (left ∷ right ∷ []) × Named (heap (now b)) left × Named (heap (now b)) right × (sizeAt (heap (now b)) left + sizeAt (heap (now b)) right < 1048576) ⌝ }
+    ensures { λ r. ⌜ Outcome (now (b .entry)) (now (b .exit)) (left ∷ right ∷ []) r (join key value (tree (heap (now (b .entry))) left) (tree (heap (now (b .entry))) right)) ⌝ }
 {
     let left_size = size_at(b, left);
     let right_size = size_at(b, right);
     if right_size > 3 * left_size {
-        let r = read(b, right);
+        let r = take_apart(b, right);
         let Made::At(new_left) = join(b, key, value, left, r.left) else {
             return Made::Full;
         };
         return balanced(b, r.key, r.value, new_left, r.right);
     }
     if left_size > 3 * right_size {
-        let l = read(b, left);
+        let l = take_apart(b, left);
         let Made::At(new_right) = join(b, key, value, l.right, right) else {
             return Made::Full;
         };
@@ -61,13 +62,13 @@ fn into_pieces(left: u32, found: Found, right: u32) -> Parted
 
 // Takes only the path to the key apart: each node on it, with its other child, is joined to the part next to it.
 pub fn split(b: &mut [u32], n: u32, key: u32) -> Parted
-    requires { ⌜ Running (now b) × Named (heap (now b)) n × (sizeAt (heap (now b)) n < 1048576) ⌝ }
-    ensures { λ r. ⌜ Division (now (b .entry)) (now (b .exit)) r (split (tree (heap (now (b .entry))) n) key) ⌝ }
+    requires { ⌜ Holding (now b) (n ∷ []) × Named (heap (now b)) n × (sizeAt (heap (now b)) n < 1048576) ⌝ }
+    ensures { λ r. ⌜ Division (now (b .entry)) (now (b .exit)) (n ∷ []) r (split (tree (heap (now (b .entry))) n) key) ⌝ }
 {
     if n == 0 {
         return into_pieces(0, Found::Absent, 0);
     }
-    let node = read(b, n);
+    let node = take_apart(b, n);
     if key == node.key {
         return into_pieces(node.left, Found::Value(node.value), node.right);
     }
@@ -93,8 +94,8 @@ pub fn split(b: &mut [u32], n: u32, key: u32) -> Parted
 
 // A sole remaining side is returned as is; of two, the minimum of the right takes the key's place.
 pub fn without_key(b: &mut [u32], left: u32, right: u32) -> Made
-    requires { ⌜ Running (now b) × Named (heap (now b)) left × Named (heap (now b)) right × (sizeAt (heap (now b)) left + sizeAt (heap (now b)) right < 1048576) ⌝ }
-    ensures { λ r. ⌜ Outcome (now (b .entry)) (now (b .exit)) r (withoutKey join (tree (heap (now (b .entry))) left) (tree (heap (now (b .entry))) right)) ⌝ }
+    requires { ⌜ Holding (now b) (left ∷ right ∷ []) × Named (heap (now b)) left × Named (heap (now b)) right × (sizeAt (heap (now b)) left + sizeAt (heap (now b)) right < 1048576) ⌝ }
+    ensures { λ r. ⌜ Outcome (now (b .entry)) (now (b .exit)) (left ∷ right ∷ []) r (withoutKey join (tree (heap (now (b .entry))) left) (tree (heap (now (b .entry))) right)) ⌝ }
 {
     if left == 0 {
         return Made::At(right);

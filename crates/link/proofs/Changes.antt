@@ -56,14 +56,18 @@ rule-ordered f t s o = go (f .kind) refl
 
 -- the rule's outcome on a version whose root is r
 module _ {b : List ℕ} {v r : ℕ} (S : Source b v r) (f : Frame) where
-  pub made-nothing : f .kind ≡ 0 → Outcome b b (At r) (ruleOf b v f)
-  made-nothing e = subst (Outcome b b (At r)) (nothing-rule (fieldsOf f) _ e) (copied S)
+  -- the piece is the version's root
+  at-root : {c : List ℕ} {q : Made} → Outcome b c (r ∷ []) q (ruleOf b v f) → Outcome b c (heap b .root v ∷ []) q (ruleOf b v f)
+  at-root {c} {q} O = subst (λ x. Outcome b c (x ∷ []) q (ruleOf b v f)) (S .is) O
 
-  pub made-put : {c : List ℕ} {q : Made} (g : Found) (fresh : Bool) → f .kind ≡ 1 → fresh ≡ isAbsent g → answer g ≡ lookup (tree (heap b) r) (f .key) → Outcome b c q (insertBy (remade fresh) (tree (heap b) r) (f .key) (f .value)) → Outcome b c q (ruleOf b v f)
-  made-put {c} {q} g fresh e i a O = subst (Outcome b c q) (put-rule (fieldsOf f) _ e) (inserted S g fresh (f .key) (f .value) i a O)
+  pub made-nothing : f .kind ≡ 0 → Outcome b b (heap b .root v ∷ []) (At r) (ruleOf b v f)
+  made-nothing e = at-root (subst (Outcome b b (r ∷ []) (At r)) (nothing-rule (fieldsOf f) _ e) (copied S))
 
-  pub made-removed : {c : List ℕ} {q : Made} → f .kind ≢ 0 → f .kind ≢ 1 → Outcome b c q (remove (tree (heap b) r) (f .key)) → Outcome b c q (ruleOf b v f)
-  made-removed {c} {q} n p O = subst (Outcome b c q) (remove-rule (fieldsOf f) _ n p) (removed S (f .key) O)
+  pub made-put : {c : List ℕ} {q : Made} (g : Found) (fresh : Bool) → f .kind ≡ 1 → fresh ≡ isAbsent g → answer g ≡ lookup (tree (heap b) r) (f .key) → Outcome b c (r ∷ []) q (insertBy (remade fresh) (tree (heap b) r) (f .key) (f .value)) → Outcome b c (heap b .root v ∷ []) q (ruleOf b v f)
+  made-put {c} {q} g fresh e i a O = at-root (subst (Outcome b c (r ∷ []) q) (put-rule (fieldsOf f) _ e) (inserted S g fresh (f .key) (f .value) i a O))
+
+  pub made-removed : {c : List ℕ} {q : Made} → f .kind ≢ 0 → f .kind ≢ 1 → Outcome b c (r ∷ []) q (remove (tree (heap b) r) (f .key)) → Outcome b c (heap b .root v ∷ []) q (ruleOf b v f)
+  made-removed {c} {q} n p O = at-root (subst (Outcome b c (r ∷ []) q) (remove-rule (fieldsOf f) _ n p) (removed S (f .key) O))
 
 -- as an edit of the table, of which the link has no other answer than its number
 abbrev pub changing : (b : List ℕ) (v : ℕ) → Frame → Edit
@@ -72,6 +76,6 @@ changing b v f = record { versions = v ∷ []; legal = true; dst = v; rule = rul
 pub changed : {b c after : List ℕ} {v low n : ℕ} {made : Made} (f : Frame) → Run b c low made (changing b v f) → Settled c after v made n → Words b → Words after → Editing b after v f n
 changed {b} {c} {after} {v} {n = n} {made = made} f R S wb wa = go made (R .out) S
   where
-    go : (m : Made) → Outcome b c m (ruleOf b v f) → Settled c after v m n → Editing b after v f n
-    go (At k) O (z, F) = let C = carried (R .begun .sound) O (R .ordered) F in passes (C .enough) (z, C .edited)
-    go Full O (z, W) = let X = refused (R .begun .sound) O W wb wa in fails (λ e. true≢false (sym (X .short) ∙ e)) (z, X .same)
+    go : (m : Made) → Outcome b c (R .pieces) m (ruleOf b v f) → Settled c after v m n → Editing b after v f n
+    go (At k) O (z, F) = let C = carried (R .begun .sound) (R .pieces) (R .named) O (R .ordered) F in passes (C .enough) (z, C .edited)
+    go Full O (z, W) = let X = refused (R .begun .sound) (R .pieces) (R .named) O W wb wa in fails (λ e. true≢false (sym (X .short) ∙ e)) (z, X .same)

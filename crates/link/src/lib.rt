@@ -16,11 +16,12 @@ use tree::find;
 use tree::insert;
 ghost use mathlib.Core.Path.{_≡_};
 ghost use Prim.Native.Nat.{_<_};
-ghost use Rattle.model.specs.Block.{SoundBlock};
+ghost use Rattle.model.specs.Block.{heap, SoundBlock};
 ghost use Rattle.model.specs.Inbox.{heardAt, SoundInbox};
 ghost use Rattle.model.specs.Frame as lines;
 ghost use Rattle.model.specs.Link.{Parse, Takes, Receive};
 ghost use Rattle.frame.specs.Fields.{fieldsOf};
+ghost use mathlib.Core.List.{[], _∷_};
 ghost use Rattle.block.specs.Outcome.{Outcome};
 ghost use Rattle.link.specs.Answers.{heardOf, step, Ready, Belongs, ruleOf, Editing, Fit};
 
@@ -125,7 +126,7 @@ fn belongs(x: &[u32], f: Frame) -> u32
 // A put inserts, a remove removes, and "nothing" makes nothing.
 fn apply(b: &mut [u32], version: u32, f: Frame) -> Made
     requires { ⌜ SoundBlock (now b) × (version < 16) ⌝ }
-    ensures { λ r. ⌜ Outcome (now (b .entry)) (now (b .exit)) r (ruleOf (now (b .entry)) version f) ⌝ }
+    ensures { λ r. ⌜ Outcome (now (b .entry)) (now (b .exit)) (heap (now (b .entry)) .root version ∷ []) r (ruleOf (now (b .entry)) version f) ⌝ }
 {
     let source = root(b, version);
     if f.kind == 0 {

@@ -4,9 +4,10 @@ use Prim.Native.Nat.{ℕ}
 use mathlib.Core.Bool.{Bool, false, _||_}
 use mathlib.Core.Option.{Option, some}
 use mathlib.Core.List.{List, [], _∷_, map}
+use lib.ListN.{length}
 use lib.Dec.{eqb}
 use Rattle.model.specs.Tree.{Tree, leaf, node, Entry, size, idOf, lookup, entries}
-use Rattle.model.specs.Supply.{Supply, next, taken, given}
+use Rattle.model.specs.Supply.{Supply, firstOf, afterFirst, isNone, among, next, taken, back, given}
 use Rattle.model.specs.Rules.{twice, rotateLeft, rotateRight, balanced, insertBy, insert, removeMin, withoutKey, join, split, unionBy, union, rest, difference, mergeBy, diffBy}
 use Rattle.model.specs.Listing.{Row, turn, tooDeep, walk, listing}
 use Rattle.model.specs.Delta.{Change, changed, puts, removes, delta}
@@ -37,7 +38,7 @@ occurs (node i k v l r) n = eqb i n || (occurs l n || occurs r n)
 
 -- a call at N = 32 whose block holds the trees a and b, and no other
 supplyBeside : Tree → Tree → Supply
-supplyBeside a b = record { free = freeFrom (λ n. occurs a n || occurs b n) 1 32; makes = 0 }
+supplyBeside a b = record { free = freeFrom (λ n. occurs a n || occurs b n) 1 32; stood = λ n. occurs a n || occurs b n; dry = false }
 
 -- entries inserted one after another into a version, beside another version
 built : Tree → Tree → List Entry → Tree
@@ -50,6 +51,10 @@ three = built leaf leaf ((1, 10) ∷ (2, 20) ∷ (3, 30) ∷ [])
 
 abbrev four : Tree × Supply
 four = insert three 4 40 (supplyBeside leaf three)
+
+-- case 3's last insert
+abbrev turned : Tree × Supply
+turned = let t = built leaf leaf ((1, 0) ∷ (4, 0) ∷ (3, 0) ∷ []) in insert t 2 0 (supplyBeside leaf t)
 
 -- case 6: copied, and 4→44 put in the copy
 abbrev copy : Tree
@@ -74,7 +79,7 @@ lessened rule =
 -- what a case shows
 pub data Shown : Type 0 where
   hangs : Shape → Shown
-  makes : (count root : ℕ) → Shown
+  leaves : (free root : ℕ) → Shown
   holds : List ℕ → Shown
   value : Option ℕ → Shown
   lists : List Row → Shown
@@ -90,8 +95,9 @@ pub table : List Case
 table =
     record { number = 1; shown = hangs (shape three); told = hangs (at 1 bare (at 2 bare (one 3))) }
     ∷ record { number = 2; shown = hangs (shape (four .0)); told = hangs (at 2 (one 1) (at 3 bare (one 4))) }
-    ∷ record { number = 2; shown = makes (four .1 .makes) (idOf (four .0)); told = makes 5 8 }
-    ∷ record { number = 3; shown = hangs (shape (built leaf leaf ((1, 0) ∷ (4, 0) ∷ (3, 0) ∷ (2, 0) ∷ []))); told = hangs (at 3 (at 1 bare (one 2)) (one 4)) }
+    ∷ record { number = 2; shown = leaves (length (four .1 .free)) (idOf (four .0)); told = leaves 25 7 }
+    ∷ record { number = 3; shown = hangs (shape (turned .0)); told = hangs (at 3 (at 1 bare (one 2)) (one 4)) }
+    ∷ record { number = 3; shown = leaves (length (turned .1 .free)) (idOf (turned .0)); told = leaves 25 7 }
     ∷ record { number = 4; shown = hangs (shape (united 0)); told = hangs (at 2 (one 1) (one 3)) }
     ∷ record { number = 4; shown = value (lookup (united 0) 2); told = value (some 20) }
     ∷ record { number = 4; shown = value (lookup (united 1) 2); told = value (some 25) }
@@ -120,5 +126,5 @@ table =
 
 -- every case shows what document 01 says
 pub worked-cases : map (λ (c : Case). c .shown) table ≡ map (λ (c : Case). c .told) table
-unfolding table shape keys occurs supplyBeside built size idOf lookup entries next taken given freeFrom twice rotateLeft rotateRight balanced insertBy insert removeMin withoutKey join split unionBy union rest difference mergeBy diffBy turn tooDeep walk listing changed puts removes delta frameOf numbered framesOf
+unfolding table shape keys occurs supplyBeside built size idOf lookup entries firstOf afterFirst isNone among next taken back given freeFrom twice rotateLeft rotateRight balanced insertBy insert removeMin withoutKey join split unionBy union rest difference mergeBy diffBy turn tooDeep walk listing changed puts removes delta frameOf numbered framesOf
 worked-cases = refl

@@ -10,9 +10,10 @@ use native.Mathlib.Omega.{arith}
 use native.Mathlib.Decide.{ℕ-discrete}
 use Rattle.model.specs.Heap.{Heap, Occupied, Named, tree, version, hit, Linked, Counted, Kept}
 use Rattle.model.specs.Block.{room, nodeWord, occupiedAt, heap, Shaped}
-use Rattle.model.specs.Moves.{Rooted, Raised, Gave, Owed, Paid, Freed, Running, Grown, FullBelow, HeldBelow, Tidied, Swept, Finished}
+use Rattle.model.specs.Moves.{Rooted, Raised, Gave, Owed, Paid, Freed, Running, Holds, FullBelow, HeldBelow, Tidied, Swept, Finished}
 use Rattle.model.proofs.Counts.{hit-no}
 use Rattle.model.proofs.Giving.{same-linked, same-trees, same-refs, rooted-counted, gave-trans}
+use Rattle.model.proofs.Pieces.{stood-refs}
 use Rattle.model.proofs.Versions.{gave-version}
 
 -- A root set
@@ -50,12 +51,10 @@ sized {b} {n} R p q ne = go (occupiedAt b n) refl
     go true e = e
     go false e = absurd (ne (R .linked .blank n p q e .size))
 
--- a call makes no node below `from`: those that stand there had references at entry, and counts only rise
-pub held-from : {b e : List ℕ} {from : ℕ} → Kept (heap b) → FullBelow (heap b) from → Grown (heap b) (heap e) → Running e → HeldBelow (heap e) from
-held-from {b} {e} K F G R zero lt o = absurd (omega (arith, R .linked .within 0 o))
-held-from {b} {e} K F G R (suc m) lt o =
-    let p = F (suc m) (omega arith) lt in
-    omega (arith, K .held (suc m) p, G .rises (suc m) p)
+-- a call makes no node below `from`: those that stand there stood at entry, and have a reference still
+pub held-from : {b e : List ℕ} {ps : List ℕ} {own : ℕ → ℕ} {from : ℕ} → FullBelow (heap b) from → Holds (heap b) (heap e) ps own → Running e → HeldBelow (heap e) from
+held-from {b} {e} F H R zero lt o = absurd (omega (arith, R .linked .within 0 o))
+held-from {b} {e} F H R (suc m) lt o = omega (arith, stood-refs (suc m) (H .entry) (H .over) (F (suc m) (omega arith) lt), R .counts (suc m) o)
 
 gave-none : {h : Heap} → Linked h → Gave h h
 gave-none L = record { linked = L; room = refl; root = λ v lt. refl; fewer = λ m o. o; trees = λ m o. refl; positive = λ m o p. p }

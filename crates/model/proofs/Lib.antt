@@ -16,6 +16,7 @@ pub mod Differences
 pub mod Orders
 pub mod Keeping
 pub mod Steady
+pub mod Room
 pub mod Cancel
 pub mod Cases
 -- Heaps, and the block that is one
@@ -33,7 +34,9 @@ pub mod Versions
 pub mod Steps
 pub mod Giving
 pub mod Giveups
+pub mod Pieces
 pub mod Growing
+pub mod Aparts
 pub mod Ends
 -- Listing and delta
 pub mod Turns

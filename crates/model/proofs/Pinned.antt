@@ -4,9 +4,11 @@ use mathlib.Core.Logic.{_≢_}
 use Prim.Native.Nat.{ℕ, zero, suc, _+_, _≤_, _<_}
 use mathlib.Core.Bool.{Bool, true, false}
 use mathlib.Core.List.{List, _∷_}
+use borrow.Author.Tests.{lt-ltb, le-ltb}
 use native.Mathlib.Omega.{arith}
 use native.Mathlib.Decide.{ℕ-discrete}
 use Rattle.model.specs.Tree.{Tree}
+use Rattle.model.specs.Supply.{among}
 use Rattle.model.specs.Heap.{version, freeFrom}
 use Rattle.model.specs.Block.{heap, room, Words, SoundBlock}
 use Rattle.model.specs.Calls.{Edited}
@@ -32,6 +34,27 @@ free-same occ occ′ a (suc k) e = go (occ a) refl (free-same occ occ′ (suc a)
     go : (b : Bool) → occ a ≡ b → freeFrom occ′ (suc a) k ≡ freeFrom occ (suc a) k → freeFrom occ′ a (suc k) ≡ freeFrom occ a (suc k)
     go true p ih = rw (e a (omega arith) ∙ p, freeFrom) (rw (p, freeFrom) ih)
     go false p ih = rw (e a (omega arith) ∙ p, freeFrom) (rw (p, freeFrom) (ap (λ ns. a ∷ ns) ih))
+
+-- every free number of a part is at or above the part's first
+free-above : (occ : ℕ → Bool) (a k n : ℕ) → n < a → among n (freeFrom occ a k) ≡ n ∷ freeFrom occ a k
+unfolding freeFrom among
+free-above occ a zero n p = refl
+free-above occ a (suc k) n p = go (occ a) refl (free-above occ (suc a) k n)
+  where
+    go : (b : Bool) → occ a ≡ b → (n < suc a → among n (freeFrom occ (suc a) k) ≡ n ∷ freeFrom occ (suc a) k) → among n (freeFrom occ a (suc k)) ≡ n ∷ freeFrom occ a (suc k)
+    go true e ih = rw (e, freeFrom) (ih (omega arith))
+    go false e ih = rw (e, freeFrom) (rw (lt-ltb n a p, among) refl)
+
+-- a number that becomes free again comes into its place
+pub free-back : (occ occ′ : ℕ → Bool) (a k n : ℕ) → occ n ≡ true → occ′ n ≡ false → ((m : ℕ) → m ≢ n → occ′ m ≡ occ m) → a ≤ n → n < a + k → freeFrom occ′ a k ≡ among n (freeFrom occ a k)
+unfolding freeFrom among
+free-back occ occ′ a zero n t f o p q = absurd (omega arith)
+free-back occ occ′ a (suc k) n t f o p q = go (ℕ-discrete a n) (occ a) refl (free-back occ occ′ (suc a) k n t f o)
+  where
+    go : Dec (a ≡ n) → (b : Bool) → occ a ≡ b → (suc a ≤ n → n < suc a + k → freeFrom occ′ (suc a) k ≡ among n (freeFrom occ (suc a) k)) → freeFrom occ′ a (suc k) ≡ among n (freeFrom occ a (suc k))
+    go (yes e) b x ih = rw (ap occ′ e ∙ f, freeFrom) (rw (ap occ e ∙ t, freeFrom) (rw (free-above occ (suc a) k n (omega arith)) (rw e (ap (λ ns. n ∷ ns) (free-same occ occ′ (suc n) k (λ m l. o m (omega arith)))))))
+    go (no e) true x ih = rw (o a e ∙ x, freeFrom) (rw (x, freeFrom) (ih (omega arith) (omega arith)))
+    go (no e) false x ih = rw (o a e ∙ x, freeFrom) (rw (x, freeFrom) (rw (le-ltb n a (omega arith), among) (ap (λ ns. a ∷ ns) (ih (omega arith) (omega arith)))))
 
 pub record Taken (occ occ′ : ℕ → Bool) (a k n : ℕ) (ns : List ℕ) : Type 0 where
   pub free : occ n ≡ false

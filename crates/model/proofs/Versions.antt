@@ -5,7 +5,6 @@ use mathlib.Core.Logic.{_≢_}
 use Prim.Native.Nat.{ℕ, zero, suc, _<_, _≤_}
 use mathlib.Core.Bool.{Bool, true, false, true≢false}
 use mathlib.Core.Option.{none}
-use lib.ListN.{getD}
 use borrow.Author.Tests.{eq-eqb, le-ltb}
 use native.Mathlib.Omega.{arith}
 use Rattle.model.specs.Tree.{size, entries, find, Ordered, both, less, Is}
@@ -14,12 +13,12 @@ use Rattle.model.specs.Rules.{union, difference, mergeBy, diffBy}
 use Rattle.model.specs.Heap.{Heap, Named, load, tree, version, Linked, Sound, freeFrom, supply, sizeAt}
 use Rattle.model.proofs.Loads.{tree-size}
 use Rattle.model.proofs.Bound.{size-room}
-use Rattle.model.proofs.Cancel.{Avoids, tree-stands, cancel-same}
+use Rattle.model.proofs.Cancel.{AllFree, Avoids, tree-stands, cancel-same}
 use Rattle.model.proofs.Unions.{union-is}
 use Rattle.model.proofs.Differences.{difference-is}
 use mathlib.Core.List.{List}
 use Rattle.model.specs.Block.{heap, SoundBlock}
-use Rattle.model.specs.Moves.{Gave, Grown, Running}
+use Rattle.model.specs.Moves.{Gave, Running}
 
 -- a call starts from a sound block
 pub sound-running : {b : List ℕ} → SoundBlock b → Running b
@@ -41,9 +40,6 @@ pub version-small : {b : List ℕ} → SoundBlock b → (v r : ℕ) → v < 16 �
 version-small {b} B v r lt e =
     let L = B .sound .kept .linked in
     rw e (omega (arith, size-room (heap b) L (heap b .root v) (L .roots v lt) (version-ordered (B .sound) v lt), B .shaped .most))
-
-pub grown-version : {h g : Heap} → Linked h → Grown h g → (v : ℕ) → v < 16 → version g v ≡ version h v
-grown-version {h} {g} L G v lt = ap (tree g) (G .root v lt) ∙ G .trees (h .root v) (L .roots v lt)
 
 pub gave-version : {h g : Heap} → Gave h g → (v : ℕ) → v < 16 → version g v ≡ version h v
 gave-version {h} {g} G v lt = G .trees (g .root v) (G .linked .roots v lt) ∙ ap (tree h) (G .root v lt)
@@ -75,27 +71,19 @@ drops-equal (suc zero) ne x = rw (eq-eqb x x refl, diffBy)
 drops-equal (suc (suc zero)) ne x = absurd (ne refl)
 drops-equal (suc (suc (suc n))) ne x = rw (le-ltb x x (omega arith), diffBy)
 
--- what is free is not occupied, nor is 0
-free-unoccupied : (occ : ℕ → Bool) (a k j : ℕ) → occ 0 ≡ false → occ (getD (freeFrom occ a k) j 0) ≡ false
-unfolding freeFrom
-free-unoccupied occ a zero j z = z
-free-unoccupied occ a (suc k) j z = go (occ a) refl j (free-unoccupied occ (suc a) k)
+-- what is free is not occupied
+free-unoccupied : (h : Heap) (L : Linked h) (a k : ℕ) → AllFree h L (freeFrom (h .occupied) a k)
+unfolding freeFrom AllFree
+free-unoccupied h L a zero = tt
+free-unoccupied h L a (suc k) = go (h .occupied a) refl (free-unoccupied h L (suc a) k)
   where
-    go : (t : Bool) → occ a ≡ t → (j : ℕ) → ((j : ℕ) → occ 0 ≡ false → occ (getD (freeFrom occ (suc a) k) j 0) ≡ false) → occ (getD (freeFrom occ a (suc k)) j 0) ≡ false
-    go true e j ih = rw (e, freeFrom) (ih j z)
-    go false e zero ih = rw (e, freeFrom) e
-    go false e (suc j) ih = rw (e, freeFrom) (ih j z)
-
-zero-free : (h : Heap) → Linked h → h .occupied 0 ≡ false
-zero-free h L = go (h .occupied 0) refl
-  where
-    go : (t : Bool) → h .occupied 0 ≡ t → h .occupied 0 ≡ false
-    go true e = absurd (omega (arith, L .within 0 e .0))
-    go false e = e
+    go : (t : Bool) → h .occupied a ≡ t → AllFree h L (freeFrom (h .occupied) (suc a) k) → AllFree h L (freeFrom (h .occupied) a (suc k))
+    go true e ih = rw (e, freeFrom) ih
+    go false e ih = rw (e, freeFrom) ((λ o. true≢false (sym o ∙ e)), ih)
 
 supply-avoids : (h : Heap) (L : Linked h) → Avoids h L (supply h)
 unfolding Avoids supply
-supply-avoids h L j o = true≢false (sym o ∙ free-unoccupied (h .occupied) 1 (h .room) j (zero-free h L))
+supply-avoids h L = (free-unoccupied h L 1 (h .room), λ n. refl)
 
 -- cancelling changes neither tree nor supply under rules 0, 1 and 3
 pub cancelling-changes-nothing : (h : Heap) → Sound h → (rule v w : ℕ) → rule ≢ 2 → v < 16 → w < 16

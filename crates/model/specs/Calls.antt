@@ -58,7 +58,7 @@ pub record Edited (b after : List ℕ) (dst : ℕ) (t : Tree) : Type 0 where
   pub here : version (heap after) dst ≡ t
   pub others : (v : ℕ) → v < 16 → v ≢ dst → version (heap after) v ≡ version (heap b) v
 
--- the rule makes more nodes than are free at entry, and nothing is changed
+-- a make of the rule finds no free node, and nothing is changed
 pub record Refused (b after : List ℕ) (rule : Make Tree) : Type 0 where
   pub short : short (rule (supply (heap b)) .1) ≡ true
   pub same : after ≡ b

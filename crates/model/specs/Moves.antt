@@ -4,11 +4,10 @@ use mathlib.Core.Logic.{_≢_}
 use Prim.Native.Nat.{ℕ, zero, suc, _+_, _≤_, _<_}
 use mathlib.Core.Bool.{Bool, true, false}
 use mathlib.Core.Option.{Option, none, some}
-use mathlib.Core.List.{List}
-use lib.ListN.{drop}
-use Rattle.model.specs.Supply.{Supply, Make, short}
+use mathlib.Core.List.{List, [], _∷_}
+use Rattle.model.specs.Supply.{Supply, Make, apart, short}
 use Rattle.model.specs.Block.{heap, word, room, nodeWord, occupiedAt, Shaped}
-use Rattle.model.specs.Heap.{Heap, Occupied, Named, sizeAt, tree, version, hit, Linked, Blank, Counted, Kept, free}
+use Rattle.model.specs.Heap.{Heap, Occupied, Named, sizeAt, tree, version, hit, refs, Linked, Blank, Counted, Kept, free}
 
 -- One node, one root, one count.
 
@@ -45,6 +44,15 @@ pub record Emptied (h g : Heap) (n : ℕ) : Type 0 where
   pub blank : Blank g n
   pub counts : (m : ℕ) → m ≢ n → g .count m ≡ h .count m
 
+-- node n, which nothing named, is unoccupied now, and its children have a reference fewer
+pub record Opened (h g : Heap) (n : ℕ) : Type 0 where
+  pub was : Occupied h n
+  pub except : Except h g n
+  pub free : g .occupied n ≡ false
+  pub left : g .left n ≡ 0
+  pub right : g .right n ≡ 0
+  pub trees : (m : ℕ) → m ≢ n → Named h m → tree g m ≡ tree h m
+
 -- g is h but for roots and counts
 pub record Same (h g : Heap) : Type 0 where
   pub room : g .room ≡ h .room
@@ -77,6 +85,14 @@ pub record Lowered (h g : Heap) (n : ℕ) : Type 0 where
   pub was : Occupied h n
   pub here : h .count n ≡ g .count n + 1
   pub others : (m : ℕ) → m ≢ n → g .count m ≡ h .count m
+
+-- one reference fewer to n, or none where n is 0; nothing goes with it
+pub record Unlinked (h g : Heap) (n : ℕ) : Type 0 where
+  pub same : Same h g
+  pub root : (v : ℕ) → v < 16 → g .root v ≡ h .root v
+  pub linked : Linked g
+  pub trees : (m : ℕ) → Named h m → tree g m ≡ tree h m
+  pub counts : (extra : ℕ → ℕ) → Counted h (λ x. extra x + hit n x) → Counted g extra
 
 -- node n of b has its bit set or cleared in e, and its first j words are those of xs
 pub record Writing (b e : List ℕ) (n : ℕ) (taken : Bool) (xs : ℕ → ℕ) (j : ℕ) : Type 0 where
@@ -135,29 +151,79 @@ pub record Running (b : List ℕ) : Type 0 where
   pub linked : Linked (heap b)
   pub counts : Counted (heap b) (λ x. 0)
 
--- nodes were added to h, and nothing that stood was touched, but that counts may rise
-pub record Grown (h g : Heap) : Type 0 where
-  pub room : g .room ≡ h .room
-  pub root : (v : ℕ) → v < 16 → g .root v ≡ h .root v
-  pub kept : (m : ℕ) → Named h m → Named g m
-  pub trees : (m : ℕ) → Named h m → tree g m ≡ tree h m
-  pub rises : (m : ℕ) → Named h m → h .count m ≤ g .count m
+-- The call's pieces: links in its hands. What it made it uses once; what stood at entry stays as it is.
 
--- the supply has not fallen short, and its next numbers are the free ones, in order
-pub record Stocked (h : Heap) (s : Supply) : Type 0 where
-  pub free : free h ≡ drop (s .makes) (s .free)
+-- how often n is among the pieces
+unfoldable pub held : List ℕ → ℕ → ℕ
+held [] n = 0
+held (p ∷ ps) n = hit p n + held ps n
+
+-- the pieces ps, and beside them the pieces rest, are among tot; a link of 0 is no piece
+abbrev pub Among : (ps rest tot : List ℕ) → Type 0
+Among ps rest tot = (n : ℕ) → 1 ≤ n → held ps n + held rest n ≤ held tot n
+
+-- the pieces ps are among qs and rest
+abbrev pub Covered : (ps qs rest : List ℕ) → Type 0
+Covered ps qs rest = (n : ℕ) → 1 ≤ n → held ps n ≤ held qs n + held rest n
+
+-- all that stood in a stands in h as it stood, but for counts
+pub record Over (a h : Heap) : Type 0 where
+  pub room : h .room ≡ a .room
+  pub root : (v : ℕ) → v < 16 → h .root v ≡ a .root v
+  pub occupied : (m : ℕ) → Occupied a m → Occupied h m
+  pub key : (m : ℕ) → Occupied a m → h .key m ≡ a .key m
+  pub value : (m : ℕ) → Occupied a m → h .value m ≡ a .value m
+  pub left : (m : ℕ) → Occupied a m → h .left m ≡ a .left m
+  pub right : (m : ℕ) → Occupied a m → h .right m ≡ a .right m
+  pub size : (m : ℕ) → Occupied a m → h .size m ≡ a .size m
+
+-- a call that began at a has come to h with the pieces ps, and `own n` times n besides: a node that it made is a piece once or has one link to it, not both
+pub record Holds (a h : Heap) (ps : List ℕ) (own : ℕ → ℕ) : Type 0 where
+  pub entry : Kept a
+  pub over : Over a h
+  pub named : (n : ℕ) → 1 ≤ n → 1 ≤ held ps n + own n → Occupied h n
+  pub once : (n : ℕ) → 1 ≤ n → Occupied h n → a .occupied n ≡ false → held ps n + own n + refs h n ≤ 1
+
+-- what a maker asks of the block and of its pieces
+pub record Holding (b ps : List ℕ) : Type 0 where
+  pub running : Running b
+  pub entry : Heap
+  pub holds : Holds entry (heap b) ps (λ n. 0)
+
+-- the supply of a call that began at a has not fallen short, and it has the free numbers of h
+pub record Stocked (a h : Heap) (s : Supply) : Type 0 where
+  pub free : s .free ≡ free h
+  pub stood : (n : ℕ) → s .stood n ≡ a .occupied n
   pub enough : short s ≡ false
 
 -- what a rule gave is x, with a supply for g; where x is none, the supply ran short
-abbrev pub Gives : {X : Type 0} → Heap → Option X → X × Supply → Type 0
-Gives g (some x) r = (r .0 ≡ x) × Stocked g (r .1)
-Gives g none r = short (r .1) ≡ true
+abbrev pub Gives : {X : Type 0} → (a g : Heap) → Option X → X × Supply → Type 0
+Gives a g (some x) r = (r .0 ≡ x) × Stocked a g (r .1)
+Gives a g none r = short (r .1) ≡ true
 
--- the call has come from b to e as the rule m does, whatever supply has b's free numbers: x is what m gives, or m makes more nodes than there are
-pub record Came (X : Type 0) (b e : List ℕ) (x : Option X) (m : Make X) : Type 0 where
+-- from h to g the call has turned some pieces into `outs`: its other pieces, `own`, are still there, and stand as they stood
+pub record Turned (a h g : Heap) (outs : List ℕ) (own : ℕ → ℕ) : Type 0 where
+  pub holds : Holds a g outs own
+  pub trees : (m : ℕ) → 1 ≤ m → 1 ≤ own m → tree g m ≡ tree h m
+
+-- the call has come from b to e as the rule m does, wherever it began and whatever else it holds: of the pieces `ins` it made the pieces `outs`;
+-- x is what m gives, or a make of m finds no free node
+pub record Came (X : Type 0) (b e ins outs : List ℕ) (x : Option X) (m : Make X) : Type 0 where
   pub running : Running e
-  pub grown : Grown (heap b) (heap e)
-  pub gives : (s : Supply) → Stocked (heap b) s → Gives (heap e) x (m s)
+  pub turned : (a : Heap) (own : ℕ → ℕ) → Holds a (heap b) ins own → Turned a (heap b) (heap e) outs own
+  pub gives : (a : Heap) (own : ℕ → ℕ) → Holds a (heap b) ins own → (s : Supply) → Stocked a (heap b) s → Gives a (heap e) x (m s)
+
+-- what was read below n is as it was
+pub record Still (b e : List ℕ) (n : ℕ) : Type 0 where
+  pub named : Named (heap e) n
+  pub tree : tree (heap e) n ≡ tree (heap b) n
+  pub size : sizeAt (heap e) n ≡ sizeAt (heap b) n
+
+-- node n was taken apart: the call has its children in the place of it
+pub record Apart (b e : List ℕ) (n : ℕ) : Type 0 where
+  pub left : Still b e (heap b .left n)
+  pub right : Still b e (heap b .right n)
+  pub came : Came (Unit {0}) b e (n ∷ []) (heap b .left n ∷ heap b .right n ∷ []) (some tt) (apart n)
 
 -- The end of a call.
 

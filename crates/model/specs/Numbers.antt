@@ -17,7 +17,7 @@ VERSION = 3
 abbrev pub RULE : ℕ
 RULE = 4
 
--- nodes the rules make in this call exceed those free at entry
+-- a make of the rule finds no free node
 abbrev pub NO_ROOM : ℕ
 NO_ROOM = 5
 

@@ -23,8 +23,8 @@ unfoldable pub twice : ℕ → ℕ → Tree → Tree → ℕ → ℕ → Tree �
 twice k v l leaf h w r = do
   a ← make k v l leaf
   make h w a r
-twice k v l (node i g u x y) h w r = do
-  apart i
+twice k v l (node m g u x y) h w r = do
+  apart m
   a ← make k v l x
   b ← make h w y r
   make g u a b

@@ -1,6 +1,6 @@
 -- What a union gives back.
 use Prim.Native.Nat.{ℕ, _+_, _<_}
-use mathlib.Core.List.{List}
+use mathlib.Core.List.{List, [], _∷_}
 use Rattle.model.specs.Rules.{unionBy}
 use Rattle.model.specs.Heap.{sizeAt, tree}
 use Rattle.model.specs.Block.{heap}
@@ -9,4 +9,4 @@ use Rattle.block.specs.Outcome.{Outcome}
 
 -- b became e by the union of the trees below l and r, the same with any fuel above their two sizes together
 pub record United (b e : List ℕ) (q : Made) (merge : ℕ → ℕ → ℕ) (l r : ℕ) : Type 0 where
-  pub any : (fuel : ℕ) → sizeAt (heap b) l + sizeAt (heap b) r < fuel → Outcome b e q (unionBy merge fuel (tree (heap b) l) (tree (heap b) r))
+  pub any : (fuel : ℕ) → sizeAt (heap b) l + sizeAt (heap b) r < fuel → Outcome b e (l ∷ r ∷ []) q (unionBy merge fuel (tree (heap b) l) (tree (heap b) r))

@@ -4,7 +4,7 @@ use crate::values::merge_left;
 use crate::values::merge_right;
 use block::Found;
 use block::Made;
-use block::read;
+use block::apart::take_apart;
 use block::size_at;
 use join::Parted;
 use join::join;
@@ -13,7 +13,8 @@ use join::without_key;
 ghost use Prim.Native.Nat.{_+_, _<_};
 ghost use Rattle.model.specs.Heap.{Named, sizeAt, tree};
 ghost use Rattle.model.specs.Block.{heap};
-ghost use Rattle.model.specs.Moves.{Running};
+ghost use mathlib.Core.List.{[], _∷_};
+ghost use Rattle.model.specs.Moves.{Holding};
 ghost use Rattle.model.specs.Rules.{rest, difference, mergeBy, diffBy};
 ghost use Rattle.block.specs.Outcome.{Outcome, answer};
 ghost use Rattle.sets.specs.United.{United};
@@ -22,7 +23,7 @@ mod values;
 
 // Takes the larger tree's root, the left's on equal sizes, so that the smaller is the one split.
 pub fn union(b: &mut [u32], rule: u32, left: u32, right: u32) -> Made
-    requires { ⌜ Running (now b) × Named (heap (now b)) left × Named (heap (now b)) right × (sizeAt (heap (now b)) left + sizeAt (heap (now b)) right < 1048576) ⌝ }
+    requires { ⌜ Holding (now b) (left ∷ right ∷ []) × Named (heap (now b)) left × Named (heap (now b)) right × (sizeAt (heap (now b)) left + sizeAt (heap (now b)) right < 1048576) ⌝ }
     ensures { λ r. ⌜ United (now (b .entry)) (now (b .exit)) r (mergeBy rule) left right ⌝ }
 {
     if left == 0 {
@@ -32,7 +33,7 @@ pub fn union(b: &mut [u32], rule: u32, left: u32, right: u32) -> Made
         return Made::At(left);
     }
     if size_at(b, left) >= size_at(b, right) {
-        let l = read(b, left);
+        let l = take_apart(b, left);
         let Parted::Into(r) = split(b, right, l.key) else {
             return Made::Full;
         };
@@ -46,7 +47,7 @@ pub fn union(b: &mut [u32], rule: u32, left: u32, right: u32) -> Made
         };
         return join(b, l.key, value, new_left, new_right);
     }
-    let r = read(b, right);
+    let r = take_apart(b, right);
     let Parted::Into(l) = split(b, left, r.key) else {
         return Made::Full;
     };
@@ -63,8 +64,8 @@ pub fn union(b: &mut [u32], rule: u32, left: u32, right: u32) -> Made
 
 // The two sides with the root's entry between them where it stays, else without it.
 fn rest(b: &mut [u32], left: u32, key: u32, stays: Found, right: u32) -> Made
-    requires { ⌜ Running (now b) × Named (heap (now b)) left × Named (heap (now b)) right × (sizeAt (heap (now b)) left + sizeAt (heap (now b)) right < 1048576) ⌝ }
-    ensures { λ r. ⌜ Outcome (now (b .entry)) (now (b .exit)) r (rest (tree (heap (now (b .entry))) left) key (answer stays) (tree (heap (now (b .entry))) right)) ⌝ }
+    requires { ⌜ Holding (now b) (left ∷ right ∷ []) × Named (heap (now b)) left × Named (heap (now b)) right × (sizeAt (heap (now b)) left + sizeAt (heap (now b)) right < 1048576) ⌝ }
+    ensures { λ r. ⌜ Outcome (now (b .entry)) (now (b .exit)) (left ∷ right ∷ []) r (rest (tree (heap (now (b .entry))) left) key (answer stays) (tree (heap (now (b .entry))) right)) ⌝ }
 {
     match stays {
         Found::Value(value) => join(b, key, value, left, right),
@@ -74,8 +75,8 @@ fn rest(b: &mut [u32], left: u32, key: u32, stays: Found, right: u32) -> Made
 
 // Takes the left root, as only left keys can stay; with cancelling, a node that both trees share leaves nothing and is not opened.
 pub fn difference(b: &mut [u32], rule: u32, cancel: bool, left: u32, right: u32) -> Made
-    requires { ⌜ Running (now b) × Named (heap (now b)) left × Named (heap (now b)) right × (sizeAt (heap (now b)) left + sizeAt (heap (now b)) right < 1048576) ⌝ }
-    ensures { λ r. ⌜ Outcome (now (b .entry)) (now (b .exit)) r (difference (diffBy rule) cancel (tree (heap (now (b .entry))) left) (tree (heap (now (b .entry))) right)) ⌝ }
+    requires { ⌜ Holding (now b) (left ∷ right ∷ []) × Named (heap (now b)) left × Named (heap (now b)) right × (sizeAt (heap (now b)) left + sizeAt (heap (now b)) right < 1048576) ⌝ }
+    ensures { λ r. ⌜ Outcome (now (b .entry)) (now (b .exit)) (left ∷ right ∷ []) r (difference (diffBy rule) cancel (tree (heap (now (b .entry))) left) (tree (heap (now (b .entry))) right)) ⌝ }
 {
     if left == 0 {
         return Made::At(0);
@@ -86,7 +87,7 @@ pub fn difference(b: &mut [u32], rule: u32, cancel: bool, left: u32, right: u32)
     if cancel && left == right {
         return Made::At(0);
     }
-    let l = read(b, left);
+    let l = take_apart(b, left);
     let Parted::Into(r) = split(b, right, l.key) else {
         return Made::Full;
     };

@@ -3,16 +3,18 @@
 use mathlib.Core.Path.{_≡_, sym, subst}
 use Prim.Native.Nat.{ℕ, suc, _+_, _<_}
 use mathlib.Core.Bool.{Bool, true, false, _&&_, not, true≢false}
-use mathlib.Core.List.{List}
+use mathlib.Core.List.{List, [], _∷_}
 use lib.Dec.{eqb, leb}
 use borrow.Author.Tests.{eq-eqb}
 use native.Mathlib.Omega.{arith}
 use Rattle.model.specs.Tree.{Tree, leaf, size, lookup, Ordered}
 use Rattle.model.specs.Supply.{done}
 use Rattle.model.specs.Rules.{insertBy, insert, removePresent, remove, union, difference, diffBy}
-use Rattle.model.specs.Heap.{Named, load, tree, version, supply}
+use Rattle.model.specs.Heap.{Heap, Named, load, tree, version, supply}
 use Rattle.model.specs.Block.{heap, SoundBlock}
-use Rattle.model.specs.Moves.{Running}
+use Rattle.model.specs.Moves.{Running, held}
+use Rattle.model.proofs.Counts.{hit-no}
+use Rattle.model.proofs.Pieces.{AllNamed}
 use Rattle.model.proofs.Orders.{difference-ordered}
 use Rattle.model.proofs.Loads.{tree-size}
 use Rattle.model.proofs.Versions.{sound-running, version-ordered, cancelling-changes-nothing}
@@ -44,34 +46,40 @@ unfolding remove
 remove-present (Value w) t k e a = rw (← e, remove)
 remove-present Absent t k e a = absurd (true≢false a)
 
-pub removed-absent : {b : List ℕ} {n : ℕ} (f : Found) (key : ℕ) → Running b → Named (heap b) n → answer f ≡ lookup (tree (heap b) n) key → isAbsent f ≡ true → Outcome b b (At n) (remove (tree (heap b) n) key)
-removed-absent {b} {n} f key R o e a = subst (Outcome b b (At n)) (remove-absent f (tree (heap b) n) key e a) (out-done b n R o)
+pub removed-absent : {b : List ℕ} {n : ℕ} (f : Found) (key : ℕ) → Running b → Named (heap b) n → answer f ≡ lookup (tree (heap b) n) key → isAbsent f ≡ true → Outcome b b (n ∷ []) (At n) (remove (tree (heap b) n) key)
+unfolding held
+removed-absent {b} {n} f key R o e a = subst (Outcome b b (n ∷ []) (At n)) (remove-absent f (tree (heap b) n) key e a) (out-done b n (λ x i. omega arith) R o)
 
-pub removed-present : {b c : List ℕ} {q : Made} (f : Found) (n key : ℕ) → answer f ≡ lookup (tree (heap b) n) key → isAbsent f ≡ false → Outcome b c q (removePresent (tree (heap b) n) key) → Outcome b c q (remove (tree (heap b) n) key)
-removed-present {b} {c} {q} f n key e a O = subst (Outcome b c q) (remove-present f (tree (heap b) n) key e a) O
+pub removed-present : {b c ps : List ℕ} {q : Made} (f : Found) (n key : ℕ) → answer f ≡ lookup (tree (heap b) n) key → isAbsent f ≡ false → Outcome b c ps q (removePresent (tree (heap b) n) key) → Outcome b c ps q (remove (tree (heap b) n) key)
+removed-present {b} {c} {ps} {q} f n key e a O = subst (Outcome b c ps q) (remove-present f (tree (heap b) n) key e a) O
 
 module _ {b : List ℕ} {v r : ℕ} (S : Source b v r) where
-  pub inserted : {c : List ℕ} {q : Made} (f : Found) (fresh : Bool) (key value : ℕ) → fresh ≡ isAbsent f → answer f ≡ lookup (tree (heap b) r) key → Outcome b c q (insertBy (remade fresh) (tree (heap b) r) key value) → Outcome b c q (insert (version (heap b) v) key value)
-  inserted {c} {q} f fresh key value i e O =
-      rw (← S .is) (subst (Outcome b c q) (insert-told f (tree (heap b) r) key value e) (subst (λ x. Outcome b c q (insertBy (remade x) (tree (heap b) r) key value)) i O))
+  pub inserted : {c ps : List ℕ} {q : Made} (f : Found) (fresh : Bool) (key value : ℕ) → fresh ≡ isAbsent f → answer f ≡ lookup (tree (heap b) r) key → Outcome b c ps q (insertBy (remade fresh) (tree (heap b) r) key value) → Outcome b c ps q (insert (version (heap b) v) key value)
+  inserted {c} {ps} {q} f fresh key value i e O =
+      rw (← S .is) (subst (Outcome b c ps q) (insert-told f (tree (heap b) r) key value e) (subst (λ x. Outcome b c ps q (insertBy (remade x) (tree (heap b) r) key value)) i O))
 
-  pub removed : {c : List ℕ} {q : Made} (key : ℕ) → Outcome b c q (remove (tree (heap b) r) key) → Outcome b c q (remove (version (heap b) v) key)
+  pub removed : {c ps : List ℕ} {q : Made} (key : ℕ) → Outcome b c ps q (remove (tree (heap b) r) key) → Outcome b c ps q (remove (version (heap b) v) key)
   removed key O = rw (← S .is) O
 
-  pub copied : Outcome b b (At r) (done (version (heap b) v))
-  copied = rw (← S .is) (out-done b r (sound-running (S .sound)) (source-named S))
+  pub copied : Outcome b b (r ∷ []) (At r) (done (version (heap b) v))
+  unfolding held
+  copied = rw (← S .is) (out-done b r (λ x i. omega arith) (sound-running (S .sound)) (source-named S))
 
-pub cleared : {b : List ℕ} → SoundBlock b → Outcome b b (At 0) (done leaf)
-unfolding tree load
-cleared {b} B = out-done b 0 (sound-running B) tt
+pub cleared : {b : List ℕ} → SoundBlock b → Outcome b b [] (At 0) (done leaf)
+unfolding tree load held
+cleared {b} B = out-done b 0 (λ x i. omega (arith, hit-no 0 x (omega arith))) (sound-running B) tt
 
-pub united : {b c : List ℕ} {q : Made} {merge : ℕ → ℕ → ℕ} {v w l r : ℕ} → Source b v l → Source b w r → United b c q merge l r → Outcome b c q (union merge (version (heap b) v) (version (heap b) w))
+pub no-pieces : (h : Heap) → AllNamed h []
+unfolding AllNamed
+no-pieces h = tt
+
+pub united : {b c : List ℕ} {q : Made} {merge : ℕ → ℕ → ℕ} {v w l r : ℕ} → Source b v l → Source b w r → United b c q merge l r → Outcome b c (l ∷ r ∷ []) q (union merge (version (heap b) v) (version (heap b) w))
 unfolding union
 united {b} {merge = merge} {l = l} {r = r} S T U =
     let L = S .sound .sound .kept .linked in
     rw (← S .is, ← T .is) (U .any (suc (size (tree (heap b) l) + size (tree (heap b) r))) (omega (arith, tree-size (heap b) L l (source-named S), tree-size (heap b) L r (source-named T))))
 
-pub lessened : {b c : List ℕ} {q : Made} {v w l r : ℕ} (rule : ℕ) (cancel : Bool) → Source b v l → Source b w r → Outcome b c q (difference (diffBy rule) cancel (tree (heap b) l) (tree (heap b) r)) → Outcome b c q (difference (diffBy rule) cancel (version (heap b) v) (version (heap b) w))
+pub lessened : {b c ps : List ℕ} {q : Made} {v w l r : ℕ} (rule : ℕ) (cancel : Bool) → Source b v l → Source b w r → Outcome b c ps q (difference (diffBy rule) cancel (tree (heap b) l) (tree (heap b) r)) → Outcome b c ps q (difference (diffBy rule) cancel (version (heap b) v) (version (heap b) w))
 lessened rule cancel S T O = rw (← S .is, ← T .is) O
 
 -- cancelling is legal only where it changes nothing, so it keeps the order too

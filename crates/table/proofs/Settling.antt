@@ -4,20 +4,21 @@ use mathlib.Core.Logic.{_≢_}
 use Prim.Native.Nat.{ℕ, zero, suc, _+_, _≤_, _<_}
 use mathlib.Core.Bool.{Bool, true, false, not, true≢false}
 use mathlib.Core.Option.{Option}
-use mathlib.Core.List.{List}
+use mathlib.Core.List.{List, [], _∷_}
 use native.Mathlib.Omega.{arith}
 use Rattle.model.specs.Tree.{size, lookup, Ordered}
 use Rattle.model.specs.Heap.{Named, Linked, sizeAt, tree, version, supply}
 use Rattle.model.specs.Block.{heap, Words, Shaped, SoundBlock}
-use Rattle.model.specs.Moves.{Running, FullBelow, HeldBelow, Swept, Finished}
+use Rattle.model.specs.Moves.{Running, Holding, FullBelow, HeldBelow, Swept, Finished}
 use Rattle.model.specs.Numbers.{RULE, NO_ROOM}
 use Rattle.model.specs.Calls.{fails, passes, Answer, refusal, giving, Versions, Edit, Edits}
 use Rattle.model.proofs.Loads.{tree-size}
-use Rattle.model.proofs.Versions.{sound-running, version-named, version-small}
+use Rattle.model.proofs.Pieces.{AllNamed}
+use Rattle.model.proofs.Versions.{version-named, version-small}
 use Rattle.block.specs.declared.Made.{Made}
 use Rattle.block.specs.declared.Made.the-variants.{At, Full}
 use Rattle.block.specs.Outcome.{Stands, Outcome}
-use Rattle.block.proofs.Edits.{held, carried, refused}
+use Rattle.block.proofs.Edits.{start, held, carried, refused}
 use Rattle.table.specs.Answers.{ended, Settled}
 
 -- a version that a call reads, and its root
@@ -37,9 +38,14 @@ module _ {b : List ℕ} {v r : ℕ} (S : Source b v r) where
   pub source-small : sizeAt (heap b) r ≤ 4096
   source-small = version-small (S .sound) v r (S .known) (S .is)
 
-  -- what a rule of one tree asks of it
-  pub rule-asks : Running b × Named (heap b) r × (sizeAt (heap b) r < 1048575)
-  rule-asks = (sound-running (S .sound), source-named, omega (arith, source-small))
+  -- it is the one piece of a rule of one tree
+  pub source-pieces : AllNamed (heap b) (r ∷ [])
+  unfolding AllNamed
+  source-pieces = (source-named, tt)
+
+  -- what such a rule asks of it
+  pub rule-asks : Holding b (r ∷ []) × Named (heap b) r × (sizeAt (heap b) r < 1048575)
+  rule-asks = (start (S .sound) (r ∷ []) source-pieces, source-named, omega (arith, source-small))
 
   -- what is found from the root is the version's
   pub source-found : {o : Option ℕ} (key : ℕ) → o ≡ lookup (tree (heap b) r) key → o ≡ lookup (version (heap b) v) key
@@ -48,9 +54,14 @@ module _ {b : List ℕ} {v r : ℕ} (S : Source b v r) where
   pub source-size : sizeAt (heap b) r ≡ size (version (heap b) v)
   source-size = sym (tree-size (heap b) (S .sound .sound .kept .linked) r source-named) ∙ ap (λ x. size (tree (heap b) x)) (S .is)
 
--- what a rule of two trees asks of them
-pub pair-asks : {b : List ℕ} {v w l r : ℕ} → Source b v l → Source b w r → Running b × Named (heap b) l × Named (heap b) r × (sizeAt (heap b) l + sizeAt (heap b) r < 1048576)
-pair-asks S T = (sound-running (S .sound), source-named S, source-named T, omega (arith, source-small S, source-small T))
+-- the pieces of a rule of two trees, and what it asks of them
+module _ {b : List ℕ} {v w l r : ℕ} (S : Source b v l) (T : Source b w r) where
+  pub pair-pieces : AllNamed (heap b) (l ∷ r ∷ [])
+  unfolding AllNamed
+  pair-pieces = (source-named S, (source-named T, tt))
+
+  pub pair-asks : Holding b (l ∷ r ∷ []) × Named (heap b) l × Named (heap b) r × (sizeAt (heap b) l + sizeAt (heap b) r < 1048576)
+  pair-asks = (start (S .sound) (l ∷ r ∷ []) pair-pieces, source-named S, source-named T, omega (arith, source-small S, source-small T))
 
 -- the two ends of a call
 pub settled-at : {b e : List ℕ} {dst n : ℕ} {q : Made} → q ≡ At n → Finished b e dst n → Settled b e dst q 0
@@ -74,30 +85,32 @@ pub record Begun (b : List ℕ) (e : Edit) : Type 0 where
   pub versions : Versions (e .versions)
   pub legal : e .legal ≡ true
 
--- and whose rule has run, from b to c, making nodes from number `low` on
+-- and whose rule has run, from b to c, of pieces that stood there, making nodes from number `low` on
 pub record Run (b c : List ℕ) (low : ℕ) (made : Made) (e : Edit) : Type 0 where
   pub begun : Begun b e
   pub low-is : (1 ≤ low) × FullBelow (heap b) low
-  pub out : Outcome b c made (e .rule)
+  pub pieces : List ℕ
+  pub named : AllNamed (heap b) pieces
+  pub out : Outcome b c pieces made (e .rule)
   pub ordered : Ordered (e .rule (supply (heap b)) .0)
 
 module _ {b c : List ℕ} {low : ℕ} {made : Made} {e : Edit} (R : Run b c low made e) where
   -- what the end asks of the block and of what was made
   pub settle-asks : Running c × Stands (heap c) made × (1 ≤ low) × HeldBelow (heap c) low
-  settle-asks = (R .out .came .running, R .out .named, R .low-is .0, held (R .begun .sound) (R .low-is .1) (R .out))
+  settle-asks = (R .out .came .running, R .out .named, R .low-is .0, held (R .begun .sound) (R .pieces) (R .named) (R .low-is .1) (R .out))
 
   -- the end of every edit
   pub settled : {after : List ℕ} {a : Answer} (n : ℕ) → Settled c after (e .dst) made n → a ≡ ended n (e .answer) → Words b → Words after → Edits b after e a
   settled {after} {a} n S q wb wa = go made (R .out) S
     where
-      go : (m : Made) → Outcome b c m (e .rule) → Settled c after (e .dst) m n → Edits b after e a
+      go : (m : Made) → Outcome b c (R .pieces) m (e .rule) → Settled c after (e .dst) m n → Edits b after e a
       go (At k) O (z, F) =
           let B = R .begun in
-          let C = carried (B .sound) O (R .ordered) F in
+          let C = carried (B .sound) (R .pieces) (R .named) O (R .ordered) F in
           passes (B .sound .shaped) (passes (B .sound) (passes (B .versions) (passes (B .legal) (passes (C .enough) (q ∙ ap (λ x. ended x (e .answer)) z, C .edited)))))
       go Full O (z, W) =
           let B = R .begun in
-          let X = refused (B .sound) O W wb wa in
+          let X = refused (B .sound) (R .pieces) (R .named) O W wb wa in
           passes (B .sound .shaped) (passes (B .sound) (passes (B .versions) (passes (B .legal) (fails (λ f. true≢false (sym (X .short) ∙ f)) (q ∙ ap (λ x. ended x (e .answer)) z, X .same)))))
 
 -- what the test of a rule number tells

@@ -18,7 +18,8 @@ ghost use Rattle.model.specs.Tree.{lookup};
 ghost use Rattle.model.specs.Rules.{remove};
 ghost use Rattle.model.specs.Heap.{Named, sizeAt, tree};
 ghost use Rattle.model.specs.Block.{heap};
-ghost use Rattle.model.specs.Moves.{Running, HeldBelow};
+ghost use mathlib.Core.List.{[], _∷_};
+ghost use Rattle.model.specs.Moves.{Running, Holding, HeldBelow};
 ghost use Rattle.model.specs.Calls.{Fresh, Edits, inserting, removing, copying, clearing, uniting, lessening};
 ghost use Rattle.block.specs.Outcome.{Outcome, Stands, answer};
 ghost use Rattle.table.specs.Answers.{answerOf, isAbsent, Settled};
@@ -51,8 +52,8 @@ pub fn is_absent(f: Found) -> bool
 
 // The tree below n without a key whose lookup gave f. Receive removes by it too; it is no call of its own.
 pub fn without(b: &mut [u32], n: u32, key: u32, f: Found) -> Made
-    requires { ⌜ Running (now b) × Named (heap (now b)) n × (sizeAt (heap (now b)) n < 1048575) × (answer f ≡ lookup (tree (heap (now b)) n) key) ⌝ }
-    ensures { λ r. ⌜ Outcome (now (b .entry)) (now (b .exit)) r (remove (tree (heap (now (b .entry))) n) key) ⌝ }
+    requires { ⌜ Holding (now b) (n ∷ []) × Named (heap (now b)) n × (sizeAt (heap (now b)) n < 1048575) × (answer f ≡ lookup (tree (heap (now b)) n) key) ⌝ }
+    ensures { λ r. ⌜ Outcome (now (b .entry)) (now (b .exit)) (n ∷ []) r (remove (tree (heap (now (b .entry))) n) key) ⌝ }
 {
     if is_absent(f) {
         return Made::At(n);

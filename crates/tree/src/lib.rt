@@ -1,6 +1,7 @@
 // The tree rules: the balanced make, insert, remove and lookup.
 use block::Found;
 use block::Made;
+use block::apart::take_apart;
 use block::make;
 use block::read;
 use block::size_at;
@@ -9,7 +10,8 @@ ghost use Prim.Native.Nat.{ℕ, _+_, _<_};
 ghost use Rattle.model.specs.Tree.{lookup};
 ghost use Rattle.model.specs.Heap.{Named, Occupied, Linked, sizeAt, tree};
 ghost use Rattle.model.specs.Block.{heap, Shaped};
-ghost use Rattle.model.specs.Moves.{Running};
+ghost use mathlib.Core.List.{[], _∷_};
+ghost use Rattle.model.specs.Moves.{Holding};
 ghost use Rattle.model.specs.Rules.{twice, rotateLeft, rotateRight, balanced, insertBy, withoutKey, removePresent};
 ghost use Rattle.block.specs.Outcome.{Outcome, answer};
 ghost use Rattle.tree.specs.Remade.{remade};
@@ -26,10 +28,10 @@ fn twice(
     v: u32,
     right: u32,
 ) -> Made
-    requires { ⌜ Running (now b) × Named (heap (now b)) left × Occupied (heap (now b)) middle × Named (heap (now b)) right × (sizeAt (heap (now b)) left + sizeAt (heap (now b)) middle + sizeAt (heap (now b)) right + 1 < 1048576) ⌝ }
-    ensures { λ r. ⌜ Outcome (now (b .entry)) (now (b .exit)) r (twice key value (tree (heap (now (b .entry))) left) (tree (heap (now (b .entry))) middle) k v (tree (heap (now (b .entry))) right)) ⌝ }
+    requires { ⌜ Holding (now b) (left ∷ middle ∷ right ∷ []) × Named (heap (now b)) left × Occupied (heap (now b)) middle × Named (heap (now b)) right × (sizeAt (heap (now b)) left + sizeAt (heap (now b)) middle + sizeAt (heap (now b)) right + 1 < 1048576) ⌝ }
+    ensures { λ r. ⌜ Outcome (now (b .entry)) (now (b .exit)) (left ∷ middle ∷ right ∷ []) r (twice key value (tree (heap (now (b .entry))) left) (tree (heap (now (b .entry))) middle) k v (tree (heap (now (b .entry))) right)) ⌝ }
 {
-    let n = read(b, middle);
+    let n = take_apart(b, middle);
     let Made::At(x) = make(b, key, value, left, n.left) else {
         return Made::Full;
     };
@@ -41,10 +43,10 @@ fn twice(
 
 // Right heavy: once if the right child's left weight is below twice its right weight, otherwise twice.
 fn rotate_left(b: &mut [u32], key: u32, value: u32, left: u32, right: u32) -> Made
-    requires { ⌜ Running (now b) × Named (heap (now b)) left × Occupied (heap (now b)) right × (sizeAt (heap (now b)) left + sizeAt (heap (now b)) right < 1048576) ⌝ }
-    ensures { λ r. ⌜ Outcome (now (b .entry)) (now (b .exit)) r (rotateLeft key value (tree (heap (now (b .entry))) left) (tree (heap (now (b .entry))) right)) ⌝ }
+    requires { ⌜ Holding (now b) (left ∷ right ∷ []) × Named (heap (now b)) left × Occupied (heap (now b)) right × (sizeAt (heap (now b)) left + sizeAt (heap (now b)) right < 1048576) ⌝ }
+    ensures { λ r. ⌜ Outcome (now (b .entry)) (now (b .exit)) (left ∷ right ∷ []) r (rotateLeft key value (tree (heap (now (b .entry))) left) (tree (heap (now (b .entry))) right)) ⌝ }
 {
-    let n = read(b, right);
+    let n = take_apart(b, right);
     let left_weight = size_at(b, n.left) + 1;
     let right_weight = size_at(b, n.right) + 1;
     if left_weight < 2 * right_weight {
@@ -58,10 +60,10 @@ fn rotate_left(b: &mut [u32], key: u32, value: u32, left: u32, right: u32) -> Ma
 
 // Its mirror.
 fn rotate_right(b: &mut [u32], key: u32, value: u32, left: u32, right: u32) -> Made
-    requires { ⌜ Running (now b) × Occupied (heap (now b)) left × Named (heap (now b)) right × (sizeAt (heap (now b)) left + sizeAt (heap (now b)) right < 1048576) ⌝ }
-    ensures { λ r. ⌜ Outcome (now (b .entry)) (now (b .exit)) r (rotateRight key value (tree (heap (now (b .entry))) left) (tree (heap (now (b .entry))) right)) ⌝ }
+    requires { ⌜ Holding (now b) (left ∷ right ∷ []) × Occupied (heap (now b)) left × Named (heap (now b)) right × (sizeAt (heap (now b)) left + sizeAt (heap (now b)) right < 1048576) ⌝ }
+    ensures { λ r. ⌜ Outcome (now (b .entry)) (now (b .exit)) (left ∷ right ∷ []) r (rotateRight key value (tree (heap (now (b .entry))) left) (tree (heap (now (b .entry))) right)) ⌝ }
 {
-    let n = read(b, left);
+    let n = take_apart(b, left);
     let left_weight = size_at(b, n.left) + 1;
     let right_weight = size_at(b, n.right) + 1;
     if right_weight < 2 * left_weight {
@@ -75,8 +77,8 @@ fn rotate_right(b: &mut [u32], key: u32, value: u32, left: u32, right: u32) -> M
 
 // The balanced make of key, value, left and right.
 pub fn balanced(b: &mut [u32], key: u32, value: u32, left: u32, right: u32) -> Made
-    requires { ⌜ Running (now b) × Named (heap (now b)) left × Named (heap (now b)) right × (sizeAt (heap (now b)) left + sizeAt (heap (now b)) right < 1048576) ⌝ }
-    ensures { λ r. ⌜ Outcome (now (b .entry)) (now (b .exit)) r (balanced key value (tree (heap (now (b .entry))) left) (tree (heap (now (b .entry))) right)) ⌝ }
+    requires { ⌜ Holding (now b) (left ∷ right ∷ []) × Named (heap (now b)) left × Named (heap (now b)) right × (sizeAt (heap (now b)) left + sizeAt (heap (now b)) right < 1048576) ⌝ }
+    ensures { λ r. ⌜ Outcome (now (b .entry)) (now (b .exit)) (left ∷ right ∷ []) r (balanced key value (tree (heap (now (b .entry))) left) (tree (heap (now (b .entry))) right)) ⌝ }
 {
     let left_size = size_at(b, left);
     let right_size = size_at(b, right);
@@ -96,8 +98,8 @@ pub fn balanced(b: &mut [u32], key: u32, value: u32, left: u32, right: u32) -> M
 
 // A node of insert's path: a new key uses balanced makes, an equal key plain ones.
 fn remake(b: &mut [u32], fresh: bool, key: u32, value: u32, left: u32, right: u32) -> Made
-    requires { ⌜ Running (now b) × Named (heap (now b)) left × Named (heap (now b)) right × (sizeAt (heap (now b)) left + sizeAt (heap (now b)) right < 1048576) ⌝ }
-    ensures { λ r. ⌜ Outcome (now (b .entry)) (now (b .exit)) r (remade fresh key value (tree (heap (now (b .entry))) left) (tree (heap (now (b .entry))) right)) ⌝ }
+    requires { ⌜ Holding (now b) (left ∷ right ∷ []) × Named (heap (now b)) left × Named (heap (now b)) right × (sizeAt (heap (now b)) left + sizeAt (heap (now b)) right < 1048576) ⌝ }
+    ensures { λ r. ⌜ Outcome (now (b .entry)) (now (b .exit)) (left ∷ right ∷ []) r (remade fresh key value (tree (heap (now (b .entry))) left) (tree (heap (now (b .entry))) right)) ⌝ }
 {
     if fresh {
         return balanced(b, key, value, left, right);
@@ -107,13 +109,13 @@ fn remake(b: &mut [u32], fresh: bool, key: u32, value: u32, left: u32, right: u3
 
 // Insert below n, which remakes every node on the path, deepest first; `fresh` says that the key is new.
 pub fn insert(b: &mut [u32], fresh: bool, n: u32, key: u32, value: u32) -> Made
-    requires { ⌜ Running (now b) × Named (heap (now b)) n × (sizeAt (heap (now b)) n < 1048575) ⌝ }
-    ensures { λ r. ⌜ Outcome (now (b .entry)) (now (b .exit)) r (insertBy (remade fresh) (tree (heap (now (b .entry))) n) key value) ⌝ }
+    requires { ⌜ Holding (now b) (n ∷ []) × Named (heap (now b)) n × (sizeAt (heap (now b)) n < 1048575) ⌝ }
+    ensures { λ r. ⌜ Outcome (now (b .entry)) (now (b .exit)) (n ∷ []) r (insertBy (remade fresh) (tree (heap (now (b .entry))) n) key value) ⌝ }
 {
     if n == 0 {
         return make(b, key, value, 0, 0);
     }
-    let node = read(b, n);
+    let node = take_apart(b, n);
     if key == node.key {
         return remake(b, fresh, key, value, node.left, node.right);
     }
@@ -144,10 +146,10 @@ pub enum Lost {
 
 // Takes the minimum out of the tree below n; the nodes above it are balanced makes.
 pub fn remove_min(b: &mut [u32], n: u32) -> Lost
-    requires { ⌜ Running (now b) × Occupied (heap (now b)) n × (sizeAt (heap (now b)) n < 1048575) ⌝ }
-    ensures { λ r. ⌜ Removal (now (b .entry)) (now (b .exit)) r (minimum (heap (now (b .entry))) n) ⌝ }
+    requires { ⌜ Holding (now b) (n ∷ []) × Occupied (heap (now b)) n × (sizeAt (heap (now b)) n < 1048575) ⌝ }
+    ensures { λ r. ⌜ Removal (now (b .entry)) (now (b .exit)) (n ∷ []) r (minimum (heap (now (b .entry))) n) ⌝ }
 {
-    let node = read(b, n);
+    let node = take_apart(b, n);
     if node.left == 0 {
         return Lost::Into(Rest {
             key: node.key,
@@ -170,8 +172,8 @@ pub fn remove_min(b: &mut [u32], n: u32) -> Lost
 
 // Two trees without the key between them: a sole one as it is, else the minimum of the right takes the place.
 fn without_key(b: &mut [u32], left: u32, right: u32) -> Made
-    requires { ⌜ Running (now b) × Named (heap (now b)) left × Named (heap (now b)) right × (sizeAt (heap (now b)) left + sizeAt (heap (now b)) right < 1048576) ⌝ }
-    ensures { λ r. ⌜ Outcome (now (b .entry)) (now (b .exit)) r (withoutKey balanced (tree (heap (now (b .entry))) left) (tree (heap (now (b .entry))) right)) ⌝ }
+    requires { ⌜ Holding (now b) (left ∷ right ∷ []) × Named (heap (now b)) left × Named (heap (now b)) right × (sizeAt (heap (now b)) left + sizeAt (heap (now b)) right < 1048576) ⌝ }
+    ensures { λ r. ⌜ Outcome (now (b .entry)) (now (b .exit)) (left ∷ right ∷ []) r (withoutKey balanced (tree (heap (now (b .entry))) left) (tree (heap (now (b .entry))) right)) ⌝ }
 {
     if left == 0 {
         return Made::At(right);
@@ -187,13 +189,13 @@ fn without_key(b: &mut [u32], left: u32, right: u32) -> Made
 
 // Remove below n: the key's node gives way, ancestors are balanced makes. A path to a key that is present does not end in 0.
 pub fn remove(b: &mut [u32], n: u32, key: u32) -> Made
-    requires { ⌜ Running (now b) × Named (heap (now b)) n × (sizeAt (heap (now b)) n < 1048575) ⌝ }
-    ensures { λ r. ⌜ Outcome (now (b .entry)) (now (b .exit)) r (removePresent (tree (heap (now (b .entry))) n) key) ⌝ }
+    requires { ⌜ Holding (now b) (n ∷ []) × Named (heap (now b)) n × (sizeAt (heap (now b)) n < 1048575) ⌝ }
+    ensures { λ r. ⌜ Outcome (now (b .entry)) (now (b .exit)) (n ∷ []) r (removePresent (tree (heap (now (b .entry))) n) key) ⌝ }
 {
     if n == 0 {
         return Made::At(0);
     }
-    let node = read(b, n);
+    let node = take_apart(b, n);
     if key == node.key {
         return without_key(b, node.left, node.right);
     }

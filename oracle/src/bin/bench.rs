@@ -208,6 +208,31 @@ fn operations(n: usize, rounds: usize) {
     }
 }
 
+/// Whether the exported union of two versions of k entries each, of which so many in a hundred are common, finds room beside them.
+fn finds_room(n: usize, k: u32, common: u32) -> bool {
+    let mut table = entries(n, k);
+    let shared = k * common / 100;
+    let mut keys: Vec<u32> = (0..k).map(|i| if i < shared { 2 * (i * k / shared.max(1)) } else { 2 * i + 1 }).collect();
+    Random::new(u64::from(k)).shuffle(&mut keys);
+    put(&mut table, 1, &keys);
+    let call = Call::Union { dest: 2, left: 0, right: 1, rule: 0 };
+    exports::run(&mut table.words(), &mut [], &call).number == 0
+}
+
+/// The largest k for which it does, by halving.
+fn largest_union(n: usize, common: u32) -> u32 {
+    let (mut fits, mut full) = (0, n as u32 / 2 + 1);
+    while full - fits > 1 {
+        let k = (fits + full) / 2;
+        if finds_room(n, k, common) {
+            fits = k;
+        } else {
+            full = k;
+        }
+    }
+    fits
+}
+
 fn main() {
     let rounds = std::env::args().nth(1).map_or(500, |text| text.parse().expect("rounds is a number"));
     println!("best of {rounds}; ratio = exported call / (the original's own call + the same audit in Rust)");
@@ -219,6 +244,10 @@ fn main() {
             println!("{:42} {:6.2} {exported:13} {own:13}", scene.name, exported as f64 / own as f64);
         }
         println!("{:42} {:>6} {:13}", "reading every word of the block", "", reading(n, rounds));
+    }
+    println!("\nlargest k for which the union of two versions of k entries finds room at N = 4096");
+    for common in [0, 50, 100] {
+        println!("{common:3} in 100 common: {}", largest_union(4096, common));
     }
     operations(4096, rounds);
 }

@@ -61,7 +61,7 @@ fn chains_and_rotations() -> Result<(), String> {
     put(&mut trio, 0, &[1, 2, 3])?;
     expect("case 1", version(&trio, 0), "1(. 2(. 3))".into())?;
     put(&mut trio, 0, &[4])?;
-    expect("case 2", (version(&trio, 0), Block(&trio.block).root(0)), ("2(1 3(. 4))".into(), 8))?;
+    expect("case 2", (version(&trio, 0), Block(&trio.block).root(0)), ("2(1 3(. 4))".into(), 7))?;
     let mut trio = Trio::fresh(32);
     put(&mut trio, 0, &[1, 4, 3, 2])?;
     expect("case 3", version(&trio, 0), "3(1(. 2) 4)".into())
@@ -121,9 +121,9 @@ fn depths() -> Result<(), String> {
     Ok(())
 }
 
-/// Thirty-two nodes: a right chain of 1, 2, 3 and a filler that leaves five free, or four.
+/// Thirty-two nodes: a right chain of 1, 2, 3 and a filler that leaves four free, or three.
 fn rooms() -> Result<(), String> {
-    for (filler, told) in [(24, 0), (25, NO_ROOM)] {
+    for (filler, told) in [(25, 0), (26, NO_ROOM)] {
         let mut table = Table::fresh(32);
         let mut supply = Supply::new(table.free());
         table.versions[0] = (1..=3).rev().fold(None, |below: Tree, key| supply.make(key, key, None, below));

@@ -1,4 +1,4 @@
-//! Exact room: an edit that makes exactly as many nodes as are free succeeds, and with one fewer free it is NO_ROOM.
+//! Exact room: an edit that needs exactly as many nodes at once as are free succeeds, and with one fewer free it is NO_ROOM.
 
 use super::uneven::{self, Lean};
 use super::{Compared, Effort};

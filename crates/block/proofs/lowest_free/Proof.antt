@@ -4,7 +4,8 @@ use borrow.Author.Needs.{needs}
 use mathlib.Core.Path.{_≡_, refl, sym, ap, _∙_}
 use Prim.Native.Nat.{suc, _+_, _-_, _*_, _/_, _≤_}
 use Rattle.model.specs.Block.{room, occupiedAt}
-use Rattle.model.specs.Heap.{freeFrom, firstOf}
+use Rattle.model.specs.Supply.{firstOf}
+use Rattle.model.specs.Heap.{freeFrom}
 use Rattle.block.proofs.Free.{over-word, in-word, none-left}
 use Rattle.block.proofs.lowest_free.Statement.{statement}
 use Rattle.block.proofs.lowest_free.Tie as tie

@@ -25,7 +25,7 @@ taken-at c = c .before .before .before .before
 
 -- the node that was found
 found : (c : tie.Else1) → Lowest (entry c .args .b .now) (c .before .lowest-free .result)
-found c = lowest-found (entry c .pre .0 .shaped) (c .before .lowest-free .ensures) (c .if1 .left)
+found c = lowest-found (entry c .pre .0 .running .shaped) (c .before .lowest-free .ensures) (c .if1 .left)
 
 -- its bit is set
 taken : (c : tie.After-take-bit) (xs : ℕ → ℕ) → Writing (entry (found-at c) .args .b .now) (c .take-bit .last .0) (found-at c .before .lowest-free .result) true xs 0
@@ -41,7 +41,7 @@ making c =
     let right = taken-at c .before .before .size-at2 .ensures in
     let xs = fields (a .key) (a .value) (a .left) (a .right) (sizeAt h (a .left) + sizeAt h (a .right) + 1) in
     record {
-      running = entry at .pre .0;
+      running = entry at .pre .0 .running;
       lowest = found at;
       left = entry at .pre .1;
       right = entry at .pre .2;
@@ -58,7 +58,7 @@ returns : tie.Need-returns
 returns c =
     let st = c .before .before .before .before in
     let b = st .args .b .now in
-    record { named = tt; came = came-full (st .pre .0) (found-none (occupiedAt b) 1 (room b) (omega arith) (sym (c .before .lowest-free .ensures) ∙ c .if1 .taken)) }
+    record { named = tt; came = came-full (st .pre .0 .running) (found-none (occupiedAt b) 1 (room b) (omega arith) (sym (c .before .lowest-free .ensures) ∙ c .if1 .taken)) }
 
 size-at-requires : tie.Need-size-at-requires
 size-at-requires c κs = search needs

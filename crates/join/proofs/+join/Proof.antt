@@ -7,19 +7,20 @@ use borrow.Fn.PlainCycle.{Measures, is, falls, and}
 use Rattle.join.proofs.join.Reads as join
 use Rattle.join.proofs.join.Kinds as join-kinds
 use Rattle.join.proofs.+join.Lts-join as join-lts
-use Rattle.block.proofs.read.Reads as read-reads
+use Rattle.block.proofs.apart.take_apart.Reads as take-apart-reads
 use Rattle.block.proofs.size_at.Reads as size-at-reads
 use Rattle.tree.proofs.balanced.Reads as balanced-reads
 use Rattle.join.proofs.+join.{statement}
 use Rattle.join.proofs.+join.Tie.{close}
 use Rattle.block.proofs.size_at.Kinds as size-at-kinds
-use Rattle.block.proofs.read.Kinds as read-kinds
+use Rattle.block.proofs.apart.take_apart.Kinds as take-apart-kinds
 use Rattle.tree.proofs.balanced.Kinds as balanced-kinds
 use Rattle.model.specs.Block.{heap}
 use Rattle.model.specs.Heap.{sizeAt}
 use Rattle.block.proofs.Outcomes.{told}
-use Rattle.join.proofs.Joining.{Larger, even, spine-stop, spine-left, spine-right, spine-done, right-asks, right-spine, left-asks, left-spine}
-use Rattle.block.proofs.Levels.{read-asks, sized-occupied}
+use Rattle.join.proofs.Joining.{Larger, even, right-asks, right-spine, right-next, left-asks, left-spine, left-next}
+use Rattle.block.proofs.Levels.{sized-occupied, above-stop, above-last, above-last-right}
+use Rattle.tree.proofs.Turns.{swapped}
 
 abbrev μ-join : Measures 1 join-kinds.ps ℕ
 μ-join κs a = sizeAt (heap (a .0 .now)) (a .1 .1 .1 .0) + sizeAt (heap (a .0 .now)) (a .1 .1 .1 .1 .0)
@@ -30,48 +31,44 @@ join-at t = and 1 join-kinds.ps (is 1 join-kinds.ps μ-join t) join.Pre
 abbrev join-below : ℕ → In 1 join-kinds.ps
 join-below t = and 1 join-kinds.ps (falls 1 join-kinds.ps _<_ μ-join t) join.Pre
 
-abbrev calls : (t : ℕ) → In 1 size-at-kinds.ps × Out 1 size-at-kinds.ps size-at-kinds.r × In 1 read-kinds.ps × Out 1 read-kinds.ps read-kinds.r × In 1 join-kinds.ps × Out 1 join-kinds.ps join-kinds.r × In 1 balanced-kinds.ps × Out 1 balanced-kinds.ps balanced-kinds.r
-calls t = (size-at-reads.Asked, size-at-reads.Learnt, read-reads.Asked, read-reads.Learnt, join-below t, join.Post, balanced-reads.Asked, balanced-reads.Learnt)
+abbrev calls : (t : ℕ) → In 1 size-at-kinds.ps × Out 1 size-at-kinds.ps size-at-kinds.r × In 1 take-apart-kinds.ps × Out 1 take-apart-kinds.ps take-apart-kinds.r × In 1 join-kinds.ps × Out 1 join-kinds.ps join-kinds.r × In 1 balanced-kinds.ps × Out 1 balanced-kinds.ps balanced-kinds.r
+calls t = (size-at-reads.Asked, size-at-reads.Learnt, take-apart-reads.Asked, take-apart-reads.Learnt, join-below t, join.Post, balanced-reads.Asked, balanced-reads.Learnt)
 
 -- a level, once its larger side is read
-right : (t : ℕ) (c : join-lts.After-read (calls t) (join-at t) join.Post) → let a = c .before .before .before .before .before .before .before .before .args in Larger (a .b .now) (a .right) (a .left) (c .read .result)
+right : (t : ℕ) (c : join-lts.After-take-apart (calls t) (join-at t) join.Post) → let a = c .before .before .before .before .before .before .before .before .args in Larger (a .b .now) (c .take-apart .last .0) (a .right) (a .left) (c .take-apart .result)
 right t c =
     let p = c .before .before .before .before .before .before .before .before .pre .1 in
     record {
-      running = p .0;
-      larger = p .2;
-      other = p .1;
+      level = record { running = p .0 .running; occupied = sized-occupied (heap (c .before .before .before .before .before .before .before .before .args .b .now)) (c .before .before .before .before .before .before .before .before .args .right) (p .2) (omega (arith, c .before .before .if1 .taken, c .before .before .before .size-at2 .ensures)); is = c .take-apart .ensures .0; apart = c .take-apart .ensures .1 };
+      holding = swapped (p .0);
       small = omega (arith, p .3);
       over = omega (arith, c .before .before .if1 .taken, c .before .before .before .before .before .size-at .ensures, c .before .before .before .size-at2 .ensures);
-      is = c .read .ensures;
     }
 
-left : (t : ℕ) (c : join-lts.After-read2 (calls t) (join-at t) join.Post) → let a = c .before .before .before .before .before .before .before .before .before .args in Larger (a .b .now) (a .left) (a .right) (c .read2 .result)
+left : (t : ℕ) (c : join-lts.After-take-apart2 (calls t) (join-at t) join.Post) → let a = c .before .before .before .before .before .before .before .before .before .args in Larger (a .b .now) (c .take-apart2 .last .0) (a .left) (a .right) (c .take-apart2 .result)
 left t c =
     let p = c .before .before .before .before .before .before .before .before .before .pre .1 in
     record {
-      running = p .0;
-      larger = p .1;
-      other = p .2;
+      level = record { running = p .0 .running; occupied = sized-occupied (heap (c .before .before .before .before .before .before .before .before .before .args .b .now)) (c .before .before .before .before .before .before .before .before .before .args .left) (p .1) (omega (arith, c .before .before .if2 .taken, c .before .before .before .before .before .before .size-at .ensures)); is = c .take-apart2 .ensures .0; apart = c .take-apart2 .ensures .1 };
+      holding = p .0;
       small = p .3;
       over = omega (arith, c .before .before .if2 .taken, c .before .before .before .before .before .before .size-at .ensures, c .before .before .before .before .size-at2 .ensures);
-      is = c .read2 .ensures;
     }
 
 join-size-at-requires : (t : ℕ) → join-lts.Need-size-at-requires (calls t) (join-at t) join.Post
-join-size-at-requires t c κs = let p = c .before .before .pre .1 in (p .0 .shaped, p .0 .linked, p .1)
+join-size-at-requires t c κs = let p = c .before .before .pre .1 in (p .0 .running .shaped, p .0 .running .linked, p .1)
 
 join-size-at-requires-2 : (t : ℕ) → join-lts.Need-size-at-requires-2 (calls t) (join-at t) join.Post
-join-size-at-requires-2 t c κs = let p = c .before .before .before .before .pre .1 in (p .0 .shaped, p .0 .linked, p .2)
+join-size-at-requires-2 t c κs = let p = c .before .before .before .before .pre .1 in (p .0 .running .shaped, p .0 .running .linked, p .2)
 
 join-mul-if1 : (t : ℕ) → join-lts.Need-mul-if1 (calls t) (join-at t) join.Post
 join-mul-if1 t c = omega (arith, c .before .before .before .before .before .pre .1 .3, c .before .before .size-at .ensures)
 
-join-read-requires : (t : ℕ) → join-lts.Need-read-requires (calls t) (join-at t) join.Post
-join-read-requires t c κs = let st = c .before .before .before .before .before .before .before in read-asks _ (st .pre .1 .0) (sized-occupied (heap (st .args .b .now)) (st .args .right) (st .pre .1 .2) (omega (arith, c .before .if1 .taken, c .before .before .size-at2 .ensures)))
+join-take-apart-requires : (t : ℕ) → join-lts.Need-take-apart-requires (calls t) (join-at t) join.Post
+join-take-apart-requires t c κs = let st = c .before .before .before .before .before .before .before in (st .pre .1 .0 .running, sized-occupied (heap (st .args .b .now)) (st .args .right) (st .pre .1 .2) (omega (arith, c .before .if1 .taken, c .before .before .size-at2 .ensures)))
 
 join-join-requires : (t : ℕ) → join-lts.Need-join-requires (calls t) (join-at t) join.Post
-join-join-requires t c κs = right-asks (right t (c .before)) (c .before .before .before .before .before .before .before .before .before .pre .0)
+join-join-requires t c κs = right-asks (right t (c .before .before .before)) (c .before .before .before .before .before .before .before .before .before .before .before .pre .0)
 
 join-enum-known-new-left : (t : ℕ) → join-lts.Need-enum-known-new-left (calls t) (join-at t) join.Post
 join-enum-known-new-left t c = search needs
@@ -83,25 +80,25 @@ join-same-length : (t : ℕ) → join-lts.Need-same-length (calls t) (join-at t)
 join-same-length t c = search needs
 
 join-returns : (t : ℕ) → join-lts.Need-returns (calls t) (join-at t) join.Post
-join-returns t c = spine-stop (right-spine (right t (c .before .before .before .before .before .before)) _ _) (told _ _ (c .enum-told .given .1) (c .before .before .before .before .join .ensures))
+join-returns t c = above-stop (right-spine (right t (c .before .before .before .before .before .before .before .before)) _ _) (told _ _ (c .enum-told .given .1) (c .before .before .before .before .join .ensures))
 
 join-balanced-requires : (t : ℕ) → join-lts.Need-balanced-requires (calls t) (join-at t) join.Post
-join-balanced-requires t c κs = spine-left (right-spine (right t (c .before .before .before .before .before .before .before .before)) _ _) (told _ _ (c .before .before .new-left .given .1) (c .before .before .before .before .before .before .join .ensures))
+join-balanced-requires t c κs = right-next (right t (c .before .before .before .before .before .before .before .before .before .before)) _ _ (told _ _ (c .before .before .new-left .given .1) (c .before .before .before .before .before .before .join .ensures))
 
 join-same-length-2 : (t : ℕ) → join-lts.Need-same-length-2 (calls t) (join-at t) join.Post
 join-same-length-2 t c = search needs
 
 join-returns-2 : (t : ℕ) → join-lts.Need-returns-2 (calls t) (join-at t) join.Post
-join-returns-2 t c = spine-done (right-spine (right t (c .before .before .before .before .before .before .before .before .before .before .before)) _ _) (told _ _ (c .before .before .before .before .before .new-left .given .1) (c .before .before .before .before .before .before .before .before .before .join .ensures)) (c .before .before .balanced .ensures)
+join-returns-2 t c = above-last (right-spine (right t (c .before .before .before .before .before .before .before .before .before .before .before .before .before)) _ _) (told _ _ (c .before .before .before .before .before .new-left .given .1) (c .before .before .before .before .before .before .before .before .before .join .ensures)) (c .before .before .balanced .ensures)
 
 join-mul-if2 : (t : ℕ) → join-lts.Need-mul-if2 (calls t) (join-at t) join.Post
 join-mul-if2 t c = omega (arith, c .before .before .before .before .before .before .pre .1 .3, c .before .size-at2 .ensures)
 
-join-read-requires-2 : (t : ℕ) → join-lts.Need-read-requires-2 (calls t) (join-at t) join.Post
-join-read-requires-2 t c κs = let st = c .before .before .before .before .before .before .before .before in read-asks _ (st .pre .1 .0) (sized-occupied (heap (st .args .b .now)) (st .args .left) (st .pre .1 .1) (omega (arith, c .before .if2 .taken, c .before .before .before .before .before .size-at .ensures)))
+join-take-apart-requires-2 : (t : ℕ) → join-lts.Need-take-apart-requires-2 (calls t) (join-at t) join.Post
+join-take-apart-requires-2 t c κs = let st = c .before .before .before .before .before .before .before .before in (st .pre .1 .0 .running, sized-occupied (heap (st .args .b .now)) (st .args .left) (st .pre .1 .1) (omega (arith, c .before .if2 .taken, c .before .before .before .before .before .size-at .ensures)))
 
 join-join-requires-2 : (t : ℕ) → join-lts.Need-join-requires-2 (calls t) (join-at t) join.Post
-join-join-requires-2 t c κs = left-asks (left t (c .before)) (c .before .before .before .before .before .before .before .before .before .before .pre .0)
+join-join-requires-2 t c κs = left-asks (left t (c .before .before .before)) (c .before .before .before .before .before .before .before .before .before .before .before .before .pre .0)
 
 join-enum-known-new-right : (t : ℕ) → join-lts.Need-enum-known-new-right (calls t) (join-at t) join.Post
 join-enum-known-new-right t c = search needs
@@ -113,16 +110,16 @@ join-same-length-3 : (t : ℕ) → join-lts.Need-same-length-3 (calls t) (join-a
 join-same-length-3 t c = search needs
 
 join-returns-3 : (t : ℕ) → join-lts.Need-returns-3 (calls t) (join-at t) join.Post
-join-returns-3 t c = spine-stop (left-spine (left t (c .before .before .before .before .before .before)) _ _) (told _ _ (c .enum-told2 .given .1) (c .before .before .before .before .join2 .ensures))
+join-returns-3 t c = above-stop (left-spine (left t (c .before .before .before .before .before .before .before .before)) _ _) (told _ _ (c .enum-told2 .given .1) (c .before .before .before .before .join2 .ensures))
 
 join-balanced-requires-2 : (t : ℕ) → join-lts.Need-balanced-requires-2 (calls t) (join-at t) join.Post
-join-balanced-requires-2 t c κs = spine-right (left-spine (left t (c .before .before .before .before .before .before .before .before)) _ _) (told _ _ (c .before .before .new-right .given .1) (c .before .before .before .before .before .before .join2 .ensures))
+join-balanced-requires-2 t c κs = left-next (left t (c .before .before .before .before .before .before .before .before .before .before)) _ _ (told _ _ (c .before .before .new-right .given .1) (c .before .before .before .before .before .before .join2 .ensures))
 
 join-same-length-4 : (t : ℕ) → join-lts.Need-same-length-4 (calls t) (join-at t) join.Post
 join-same-length-4 t c = search needs
 
 join-returns-4 : (t : ℕ) → join-lts.Need-returns-4 (calls t) (join-at t) join.Post
-join-returns-4 t c = spine-done (left-spine (left t (c .before .before .before .before .before .before .before .before .before .before .before)) _ _) (told _ _ (c .before .before .before .before .before .new-right .given .1) (c .before .before .before .before .before .before .before .before .before .join2 .ensures)) (c .before .before .balanced2 .ensures)
+join-returns-4 t c = above-last-right (left-spine (left t (c .before .before .before .before .before .before .before .before .before .before .before .before .before)) _ _) (told _ _ (c .before .before .before .before .before .new-right .given .1) (c .before .before .before .before .before .before .before .before .before .join2 .ensures)) (c .before .before .balanced2 .ensures)
 
 join-balanced-requires-3 : (t : ℕ) → join-lts.Need-balanced-requires-3 (calls t) (join-at t) join.Post
 join-balanced-requires-3 t c κs = c .before .before .before .before .before .before .before .before .pre .1
@@ -141,7 +138,7 @@ pub +join-spec : {M : Type 1} → statement M
     (join-size-at-requires t)
     (join-size-at-requires-2 t)
     (join-mul-if1 t)
-    (join-read-requires t)
+    (join-take-apart-requires t)
     (join-join-requires t)
     (join-enum-known-new-left t)
     (join-enum-told t)
@@ -151,7 +148,7 @@ pub +join-spec : {M : Type 1} → statement M
     (join-same-length-2 t)
     (join-returns-2 t)
     (join-mul-if2 t)
-    (join-read-requires-2 t)
+    (join-take-apart-requires-2 t)
     (join-join-requires-2 t)
     (join-enum-known-new-right t)
     (join-enum-told-2 t)

@@ -6,21 +6,20 @@ use borrow.Fn.PlainCycle.{Measures, is, falls, and}
 use Rattle.join.proofs.split.Reads as split
 use Rattle.join.proofs.split.Kinds as split-kinds
 use Rattle.join.proofs.+split.Lts-split as split-lts
-use Rattle.block.proofs.read.Reads as read-reads
+use Rattle.block.proofs.apart.take_apart.Reads as take-apart-reads
 use Rattle.join.proofs.into_pieces.Reads as into-pieces-reads
 use Rattle.join.proofs.join.Reads as join-reads
 use Rattle.join.proofs.+split.{statement}
 use Rattle.join.proofs.+split.Tie.{close}
-use mathlib.Core.Path.{refl, sym}
-use Rattle.block.proofs.read.Kinds as read-kinds
+use mathlib.Core.Path.{sym}
+use Rattle.block.proofs.apart.take_apart.Kinds as take-apart-kinds
 use Rattle.join.proofs.into_pieces.Kinds as into-pieces-kinds
 use Rattle.join.proofs.join.Kinds as join-kinds
 use Rattle.model.specs.Block.{heap}
 use Rattle.model.specs.Heap.{sizeAt}
 use Rattle.model.proofs.Lookups.{link-occupied}
 use Rattle.block.proofs.Outcomes.{told}
-use Rattle.block.proofs.Levels.{read-asks}
-use Rattle.join.proofs.Splitting.{told-parts, split-none, Opened, here, left-asks, left-parting, left-done, right-asks, right-parting, right-done, parting-stop, parting-left, parting-right, parting-stop-2}
+use Rattle.join.proofs.Splitting.{told-parts, split-none, Opened, here, left-asks, left-parting, left-next, left-stop, left-done, right-asks, right-parting, right-next, right-stop, right-done, parting-stop}
 
 abbrev μ-split : Measures 1 split-kinds.ps ℕ
 μ-split κs a = sizeAt (heap (a .0 .now)) (a .1 .0)
@@ -31,23 +30,23 @@ split-at t = and 1 split-kinds.ps (is 1 split-kinds.ps μ-split t) split.Pre
 abbrev split-below : ℕ → In 1 split-kinds.ps
 split-below t = and 1 split-kinds.ps (falls 1 split-kinds.ps _<_ μ-split t) split.Pre
 
-abbrev calls : (t : ℕ) → In 0 into-pieces-kinds.ps × Out 0 into-pieces-kinds.ps into-pieces-kinds.r × In 1 read-kinds.ps × Out 1 read-kinds.ps read-kinds.r × In 1 split-kinds.ps × Out 1 split-kinds.ps split-kinds.r × In 1 join-kinds.ps × Out 1 join-kinds.ps join-kinds.r
-calls t = (into-pieces-reads.Asked, into-pieces-reads.Learnt, read-reads.Asked, read-reads.Learnt, split-below t, split.Post, join-reads.Asked, join-reads.Learnt)
+abbrev calls : (t : ℕ) → In 0 into-pieces-kinds.ps × Out 0 into-pieces-kinds.ps into-pieces-kinds.r × In 1 take-apart-kinds.ps × Out 1 take-apart-kinds.ps take-apart-kinds.r × In 1 split-kinds.ps × Out 1 split-kinds.ps split-kinds.r × In 1 join-kinds.ps × Out 1 join-kinds.ps join-kinds.r
+calls t = (into-pieces-reads.Asked, into-pieces-reads.Learnt, take-apart-reads.Asked, take-apart-reads.Learnt, split-below t, split.Post, join-reads.Asked, join-reads.Learnt)
 
 -- the premises of a level, once the node is read
-opened : (t : ℕ) (c : split-lts.After-read (calls t) (split-at t) split.Post) → let a = c .before .before .before .before .args in Opened (a .b .now) (a .n) (c .read .result)
+opened : (t : ℕ) (c : split-lts.After-take-apart (calls t) (split-at t) split.Post) → let a = c .before .before .before .before .args in Opened (a .b .now) (c .take-apart .last .0) (a .n) (c .take-apart .result)
 opened t c =
     let p = c .before .before .before .before .pre .1 in
-    record { level = record { running = p .0; occupied = link-occupied _ _ (p .1) (c .before .before .if1 .left); is = c .read .ensures }; small = p .2 }
+    record { level = record { running = p .0 .running; occupied = link-occupied _ _ (p .1) (c .before .before .if1 .left); is = c .take-apart .ensures .0; apart = c .take-apart .ensures .1 }; holding = p .0; small = p .2 }
 
 split-into-pieces-requires : (t : ℕ) → split-lts.Need-into-pieces-requires (calls t) (split-at t) split.Post
 split-into-pieces-requires t c κs = search needs
 
 split-returns : (t : ℕ) → split-lts.Need-returns (calls t) (split-at t) split.Post
-split-returns t c = told-parts _ _ (sym (c .into-pieces .ensures)) (split-none _ _ _ (c .before .if1 .taken) (c .before .before .before .pre .1 .0))
+split-returns t c = told-parts _ _ (sym (c .into-pieces .ensures)) (split-none _ _ _ (c .before .if1 .taken) (c .before .before .before .pre .1 .0 .running))
 
-split-read-requires : (t : ℕ) → split-lts.Need-read-requires (calls t) (split-at t) split.Post
-split-read-requires t c κs = let p = c .before .before .before .pre .1 in read-asks _ (p .0) (link-occupied _ _ (p .1) (c .before .if1 .left))
+split-take-apart-requires : (t : ℕ) → split-lts.Need-take-apart-requires (calls t) (split-at t) split.Post
+split-take-apart-requires t c κs = let p = c .before .before .before .pre .1 in (p .0 .running, link-occupied _ _ (p .1) (c .before .if1 .left))
 
 split-into-pieces-requires-2 : (t : ℕ) → split-lts.Need-into-pieces-requires-2 (calls t) (split-at t) split.Post
 split-into-pieces-requires-2 t c κs = search needs
@@ -56,10 +55,10 @@ split-same-length : (t : ℕ) → split-lts.Need-same-length (calls t) (split-at
 split-same-length t c = search needs
 
 split-returns-2 : (t : ℕ) → split-lts.Need-returns-2 (calls t) (split-at t) split.Post
-split-returns-2 t c = told-parts _ _ (sym (c .into-pieces2 .ensures)) (here (opened t (c .before .before .before)) _ (c .before .if2 .taken))
+split-returns-2 t c = told-parts _ _ (sym (c .into-pieces2 .ensures)) (here (opened t (c .before .before .before .before .before)) _ (c .before .if2 .taken))
 
 split-split-requires : (t : ℕ) → split-lts.Need-split-requires (calls t) (split-at t) split.Post
-split-split-requires t c κs = left-asks (opened t (c .before .before .before .before .before)) (c .before .before .before .before .before .before .before .before .before .pre .0)
+split-split-requires t c κs = left-asks (opened t (c .before .before .before .before .before .before .before)) (c .before .before .before .before .before .before .before .before .before .before .before .pre .0)
 
 split-enum-known-p : (t : ℕ) → split-lts.Need-enum-known-p (calls t) (split-at t) split.Post
 split-enum-known-p t c = search needs
@@ -71,10 +70,10 @@ split-same-length-2 : (t : ℕ) → split-lts.Need-same-length-2 (calls t) (spli
 split-same-length-2 t c = search needs
 
 split-returns-3 : (t : ℕ) → split-lts.Need-returns-3 (calls t) (split-at t) split.Post
-split-returns-3 t c = parting-stop (left-parting (opened t (c .before .before .before .before .before .before .before .before .before .before)) _ (c .before .before .before .before .before .before .if3 .taken)) (told-parts _ _ (c .enum-told .given .1) (c .before .before .before .before .split .ensures))
+split-returns-3 t c = parting-stop (left-parting (opened t (c .before .before .before .before .before .before .before .before .before .before .before .before)) _ (c .before .before .before .before .before .before .if3 .taken)) (told-parts _ _ (c .enum-told .given .1) (c .before .before .before .before .split .ensures))
 
 split-join-requires : (t : ℕ) → split-lts.Need-join-requires (calls t) (split-at t) split.Post
-split-join-requires t c κs = let D = (told-parts _ _ (c .before .before .p .given .1) (c .before .before .before .before .before .before .split .ensures)) in parting-left (left-parting (opened t (c .before .before .before .before .before .before .before .before .before .before .before .before)) _ (c .before .before .before .before .before .before .before .before .if3 .taken)) D _ refl (D .right)
+split-join-requires t c κs = left-next (opened t (c .before .before .before .before .before .before .before .before .before .before .before .before .before .before)) _ (c .before .before .before .before .before .before .before .before .if3 .taken) (told-parts _ _ (c .before .before .p .given .1) (c .before .before .before .before .before .before .split .ensures))
 
 split-enum-known-joined-right : (t : ℕ) → split-lts.Need-enum-known-joined-right (calls t) (split-at t) split.Post
 split-enum-known-joined-right t c = search needs
@@ -86,7 +85,7 @@ split-same-length-3 : (t : ℕ) → split-lts.Need-same-length-3 (calls t) (spli
 split-same-length-3 t c = search needs
 
 split-returns-4 : (t : ℕ) → split-lts.Need-returns-4 (calls t) (split-at t) split.Post
-split-returns-4 t c = parting-stop-2 (left-parting (opened t (c .before .before .before .before .before .before .before .before .before .before .before .before .before .before .before .before .before)) _ (c .before .before .before .before .before .before .before .before .before .before .before .before .before .if3 .taken)) (told-parts _ _ (c .before .before .before .before .before .before .before .p .given .1) (c .before .before .before .before .before .before .before .before .before .before .before .split .ensures)) (told _ _ (c .enum-told2 .given .1) (c .before .before .before .before .join .ensures))
+split-returns-4 t c = left-stop (opened t (c .before .before .before .before .before .before .before .before .before .before .before .before .before .before .before .before .before .before .before)) _ (c .before .before .before .before .before .before .before .before .before .before .before .before .before .if3 .taken) (told-parts _ _ (c .before .before .before .before .before .before .before .p .given .1) (c .before .before .before .before .before .before .before .before .before .before .before .split .ensures)) (told _ _ (c .enum-told2 .given .1) (c .before .before .before .before .join .ensures))
 
 split-into-pieces-requires-3 : (t : ℕ) → split-lts.Need-into-pieces-requires-3 (calls t) (split-at t) split.Post
 split-into-pieces-requires-3 t c κs = search needs
@@ -95,10 +94,10 @@ split-same-length-4 : (t : ℕ) → split-lts.Need-same-length-4 (calls t) (spli
 split-same-length-4 t c = search needs
 
 split-returns-5 : (t : ℕ) → split-lts.Need-returns-5 (calls t) (split-at t) split.Post
-split-returns-5 t c = told-parts _ _ (sym (c .into-pieces3 .ensures)) (left-done (opened t (c .before .before .before .before .before .before .before .before .before .before .before .before .before .before .before .before .before .before .before)) _ (c .before .before .before .before .before .before .before .before .before .before .before .before .before .before .before .if3 .taken) (told-parts _ _ (c .before .before .before .before .before .before .before .before .before .p .given .1) (c .before .before .before .before .before .before .before .before .before .before .before .before .before .split .ensures)) (told _ _ (c .before .before .joined-right .given .1) (c .before .before .before .before .before .before .join .ensures)))
+split-returns-5 t c = told-parts _ _ (sym (c .into-pieces3 .ensures)) (left-done (opened t (c .before .before .before .before .before .before .before .before .before .before .before .before .before .before .before .before .before .before .before .before .before)) _ (c .before .before .before .before .before .before .before .before .before .before .before .before .before .before .before .if3 .taken) (told-parts _ _ (c .before .before .before .before .before .before .before .before .before .p .given .1) (c .before .before .before .before .before .before .before .before .before .before .before .before .before .split .ensures)) (told _ _ (c .before .before .joined-right .given .1) (c .before .before .before .before .before .before .join .ensures)))
 
 split-split-requires-2 : (t : ℕ) → split-lts.Need-split-requires-2 (calls t) (split-at t) split.Post
-split-split-requires-2 t c κs = right-asks (opened t (c .before .before .before .before .before)) (c .before .before .before .before .before .before .before .before .before .pre .0)
+split-split-requires-2 t c κs = right-asks (opened t (c .before .before .before .before .before .before .before)) (c .before .before .before .before .before .before .before .before .before .before .before .pre .0)
 
 split-enum-known-p-2 : (t : ℕ) → split-lts.Need-enum-known-p-2 (calls t) (split-at t) split.Post
 split-enum-known-p-2 t c = search needs
@@ -110,10 +109,10 @@ split-same-length-5 : (t : ℕ) → split-lts.Need-same-length-5 (calls t) (spli
 split-same-length-5 t c = search needs
 
 split-returns-6 : (t : ℕ) → split-lts.Need-returns-6 (calls t) (split-at t) split.Post
-split-returns-6 t c = parting-stop (right-parting (opened t (c .before .before .before .before .before .before .before .before .before .before)) _ (c .before .before .before .before .before .before .before .before .if2 .left) (c .before .before .before .before .before .before .if3 .left)) (told-parts _ _ (c .enum-told3 .given .1) (c .before .before .before .before .split2 .ensures))
+split-returns-6 t c = parting-stop (right-parting (opened t (c .before .before .before .before .before .before .before .before .before .before .before .before)) _ (c .before .before .before .before .before .before .before .before .if2 .left) (c .before .before .before .before .before .before .if3 .left)) (told-parts _ _ (c .enum-told3 .given .1) (c .before .before .before .before .split2 .ensures))
 
 split-join-requires-2 : (t : ℕ) → split-lts.Need-join-requires-2 (calls t) (split-at t) split.Post
-split-join-requires-2 t c κs = let D = (told-parts _ _ (c .before .before .p2 .given .1) (c .before .before .before .before .before .before .split2 .ensures)) in parting-right (right-parting (opened t (c .before .before .before .before .before .before .before .before .before .before .before .before)) _ (c .before .before .before .before .before .before .before .before .before .before .if2 .left) (c .before .before .before .before .before .before .before .before .if3 .left)) D _ refl (D .left)
+split-join-requires-2 t c κs = right-next (opened t (c .before .before .before .before .before .before .before .before .before .before .before .before .before .before)) _ (c .before .before .before .before .before .before .before .before .before .before .if2 .left) (c .before .before .before .before .before .before .before .before .if3 .left) (told-parts _ _ (c .before .before .p2 .given .1) (c .before .before .before .before .before .before .split2 .ensures))
 
 split-enum-known-joined-left : (t : ℕ) → split-lts.Need-enum-known-joined-left (calls t) (split-at t) split.Post
 split-enum-known-joined-left t c = search needs
@@ -125,7 +124,7 @@ split-same-length-6 : (t : ℕ) → split-lts.Need-same-length-6 (calls t) (spli
 split-same-length-6 t c = search needs
 
 split-returns-7 : (t : ℕ) → split-lts.Need-returns-7 (calls t) (split-at t) split.Post
-split-returns-7 t c = parting-stop-2 (right-parting (opened t (c .before .before .before .before .before .before .before .before .before .before .before .before .before .before .before .before .before)) _ (c .before .before .before .before .before .before .before .before .before .before .before .before .before .before .before .if2 .left) (c .before .before .before .before .before .before .before .before .before .before .before .before .before .if3 .left)) (told-parts _ _ (c .before .before .before .before .before .before .before .p2 .given .1) (c .before .before .before .before .before .before .before .before .before .before .before .split2 .ensures)) (told _ _ (c .enum-told4 .given .1) (c .before .before .before .before .join2 .ensures))
+split-returns-7 t c = right-stop (opened t (c .before .before .before .before .before .before .before .before .before .before .before .before .before .before .before .before .before .before .before)) _ (c .before .before .before .before .before .before .before .before .before .before .before .before .before .before .before .if2 .left) (c .before .before .before .before .before .before .before .before .before .before .before .before .before .if3 .left) (told-parts _ _ (c .before .before .before .before .before .before .before .p2 .given .1) (c .before .before .before .before .before .before .before .before .before .before .before .split2 .ensures)) (told _ _ (c .enum-told4 .given .1) (c .before .before .before .before .join2 .ensures))
 
 split-into-pieces-requires-4 : (t : ℕ) → split-lts.Need-into-pieces-requires-4 (calls t) (split-at t) split.Post
 split-into-pieces-requires-4 t c κs = search needs
@@ -134,7 +133,7 @@ split-same-length-7 : (t : ℕ) → split-lts.Need-same-length-7 (calls t) (spli
 split-same-length-7 t c = search needs
 
 split-returns-8 : (t : ℕ) → split-lts.Need-returns-8 (calls t) (split-at t) split.Post
-split-returns-8 t c = told-parts _ _ (sym (c .into-pieces4 .ensures)) (right-done (opened t (c .before .before .before .before .before .before .before .before .before .before .before .before .before .before .before .before .before .before .before)) _ (c .before .before .before .before .before .before .before .before .before .before .before .before .before .before .before .before .before .if2 .left) (c .before .before .before .before .before .before .before .before .before .before .before .before .before .before .before .if3 .left) (told-parts _ _ (c .before .before .before .before .before .before .before .before .before .p2 .given .1) (c .before .before .before .before .before .before .before .before .before .before .before .before .before .split2 .ensures)) (told _ _ (c .before .before .joined-left .given .1) (c .before .before .before .before .before .before .join2 .ensures)))
+split-returns-8 t c = told-parts _ _ (sym (c .into-pieces4 .ensures)) (right-done (opened t (c .before .before .before .before .before .before .before .before .before .before .before .before .before .before .before .before .before .before .before .before .before)) _ (c .before .before .before .before .before .before .before .before .before .before .before .before .before .before .before .before .before .if2 .left) (c .before .before .before .before .before .before .before .before .before .before .before .before .before .before .before .if3 .left) (told-parts _ _ (c .before .before .before .before .before .before .before .before .before .p2 .given .1) (c .before .before .before .before .before .before .before .before .before .before .before .before .before .split2 .ensures)) (told _ _ (c .before .before .joined-left .given .1) (c .before .before .before .before .before .before .join2 .ensures)))
 
 pub +split-spec : {M : Type 1} → statement M
 +split-spec = close μ-split λ t. split-lts.spec (calls t)
@@ -142,7 +141,7 @@ pub +split-spec : {M : Type 1} → statement M
     split.Post
     (split-into-pieces-requires t)
     (split-returns t)
-    (split-read-requires t)
+    (split-take-apart-requires t)
     (split-into-pieces-requires-2 t)
     (split-same-length t)
     (split-returns-2 t)

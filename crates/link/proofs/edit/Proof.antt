@@ -5,7 +5,7 @@ use native.Mathlib.Omega.{arith}
 use Rattle.model.proofs.Versions.{version-ordered}
 use Rattle.frame.specs.Fields.{fieldsOf}
 use Rattle.table.proofs.Admitting.{one-known}
-use Rattle.table.proofs.Settling.{Run, settle-asks}
+use Rattle.table.proofs.Settling.{source-pieces, Run, settle-asks}
 use Rattle.link.proofs.Changes.{rule-ordered, changing, changed}
 use Rattle.link.proofs.edit.Statement.{statement}
 use Rattle.link.proofs.edit.Tie as tie
@@ -20,6 +20,8 @@ run c =
     record {
       begun = record { sound = p .0; versions = one-known (p .1); legal = refl };
       low-is = c .before .before .makes-from .ensures;
+      pieces = _;
+      named = source-pieces (record { sound = p .0; known = p .1; is = refl });
       out = c .apply .ensures;
       ordered = rule-ordered (fieldsOf (a .f)) _ _ (version-ordered (p .0 .sound) (a .version) (p .1));
     }

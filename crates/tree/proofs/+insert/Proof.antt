@@ -1,6 +1,5 @@
 -- The keys compared choose the rule's side; what is made there, and the side that stood, are the rule's trees. The node's size falls.
 use borrow.Author.Needs.{needs}
-use native.Mathlib.Omega.{arith}
 use Prim.Native.Nat.{ℕ, _<_}
 use borrow.Fn.Kinds.{In, Out}
 use borrow.Fn.PlainCycle.{Measures, is, falls, and}
@@ -8,20 +7,20 @@ use Rattle.tree.proofs.insert.Reads as insert
 use Rattle.tree.proofs.insert.Kinds as insert-kinds
 use Rattle.tree.proofs.+insert.Lts-insert as insert-lts
 use Rattle.block.proofs.make.Reads as make-reads
-use Rattle.block.proofs.read.Reads as read-reads
+use Rattle.block.proofs.apart.take_apart.Reads as take-apart-reads
 use Rattle.tree.proofs.remake.Reads as remake-reads
 use Rattle.tree.proofs.+insert.{statement}
 use Rattle.tree.proofs.+insert.Tie.{close}
 use Rattle.block.proofs.make.Kinds as make-kinds
-use Rattle.block.proofs.read.Kinds as read-kinds
+use Rattle.block.proofs.apart.take_apart.Kinds as take-apart-kinds
 use Rattle.tree.proofs.remake.Kinds as remake-kinds
 use Rattle.model.specs.Block.{heap}
 use Rattle.model.specs.Heap.{sizeAt}
 use Rattle.model.proofs.Lookups.{link-occupied}
 use Rattle.block.proofs.Outcomes.{told}
-use Rattle.block.proofs.Levels.{read-asks, above-stop, above-last}
+use Rattle.block.proofs.Levels.{above-stop, above-last, above-last-right}
 use Rattle.tree.proofs.Paths.{both, down-left, down-right}
-use Rattle.tree.proofs.Inserts.{Insertion, insert-none, insert-here, insert-left, insert-right, insert-left-asks, insert-right-asks}
+use Rattle.tree.proofs.Inserts.{Insertion, insert-none-asks, insert-none, insert-here, insert-left, insert-right, insert-left-asks, insert-right-asks}
 
 abbrev μ-insert : Measures 1 insert-kinds.ps ℕ
 μ-insert κs a = sizeAt (heap (a .0 .now)) (a .1 .1 .0)
@@ -32,17 +31,17 @@ insert-at t = and 1 insert-kinds.ps (is 1 insert-kinds.ps μ-insert t) insert.Pr
 abbrev insert-below : ℕ → In 1 insert-kinds.ps
 insert-below t = and 1 insert-kinds.ps (falls 1 insert-kinds.ps _<_ μ-insert t) insert.Pre
 
-abbrev calls : (t : ℕ) → In 1 make-kinds.ps × Out 1 make-kinds.ps make-kinds.r × In 1 read-kinds.ps × Out 1 read-kinds.ps read-kinds.r × In 1 remake-kinds.ps × Out 1 remake-kinds.ps remake-kinds.r × In 1 insert-kinds.ps × Out 1 insert-kinds.ps insert-kinds.r
-calls t = (make-reads.Asked, make-reads.Learnt, read-reads.Asked, read-reads.Learnt, remake-reads.Asked, remake-reads.Learnt, insert-below t, insert.Post)
+abbrev calls : (t : ℕ) → In 1 make-kinds.ps × Out 1 make-kinds.ps make-kinds.r × In 1 take-apart-kinds.ps × Out 1 take-apart-kinds.ps take-apart-kinds.r × In 1 remake-kinds.ps × Out 1 remake-kinds.ps remake-kinds.r × In 1 insert-kinds.ps × Out 1 insert-kinds.ps insert-kinds.r
+calls t = (make-reads.Asked, make-reads.Learnt, take-apart-reads.Asked, take-apart-reads.Learnt, remake-reads.Asked, remake-reads.Learnt, insert-below t, insert.Post)
 
-level : (t : ℕ) (c : insert-lts.After-read (calls t) (insert-at t) insert.Post) → let a = c .before .before .before .before .args in Insertion (a .b .now) (a .n) (c .read .result) (a .fresh) (a .key) (a .value)
+level : (t : ℕ) (c : insert-lts.After-take-apart (calls t) (insert-at t) insert.Post) → let a = c .before .before .before .before .args in Insertion (a .b .now) (c .take-apart .last .0) (a .n) (c .take-apart .result) (a .fresh) (a .key) (a .value)
 level t c =
     let st = c .before .before .before .before in
     let o = link-occupied (heap (st .args .b .now)) (st .args .n) (st .pre .1 .1) (c .before .before .if1 .left) in
-    record { path = record { level = record { running = st .pre .1 .0; occupied = o; is = c .read .ensures }; small = st .pre .1 .2 } }
+    record { path = record { level = record { running = st .pre .1 .0 .running; occupied = o; is = c .take-apart .ensures .0; apart = c .take-apart .ensures .1 }; holding = st .pre .1 .0; small = st .pre .1 .2 } }
 
 insert-make-requires : (t : ℕ) → insert-lts.Need-make-requires (calls t) (insert-at t) insert.Post
-insert-make-requires t c κs = (c .before .before .before .pre .1 .0, tt, tt, omega arith)
+insert-make-requires t c κs = let st = c .before .before .before in insert-none-asks (st .args .n) (st .pre .1 .0)
 
 insert-same-length : (t : ℕ) → insert-lts.Need-same-length (calls t) (insert-at t) insert.Post
 insert-same-length t c = search needs
@@ -50,20 +49,20 @@ insert-same-length t c = search needs
 insert-returns : (t : ℕ) → insert-lts.Need-returns (calls t) (insert-at t) insert.Post
 insert-returns t c = let a = c .before .before .before .before .before .before .args in insert-none (a .fresh) (a .n) (a .key) (a .value) (c .before .before .before .before .if1 .taken) (c .before .before .make .ensures)
 
-insert-read-requires : (t : ℕ) → insert-lts.Need-read-requires (calls t) (insert-at t) insert.Post
-insert-read-requires t c κs = let st = c .before .before .before in read-asks (st .args .n) (st .pre .1 .0) (link-occupied (heap (st .args .b .now)) (st .args .n) (st .pre .1 .1) (c .before .if1 .left))
+insert-take-apart-requires : (t : ℕ) → insert-lts.Need-take-apart-requires (calls t) (insert-at t) insert.Post
+insert-take-apart-requires t c κs = let st = c .before .before .before in (st .pre .1 .0 .running, link-occupied (heap (st .args .b .now)) (st .args .n) (st .pre .1 .1) (c .before .if1 .left))
 
 insert-remake-requires : (t : ℕ) → insert-lts.Need-remake-requires (calls t) (insert-at t) insert.Post
-insert-remake-requires t c κs = both (level t (c .before .before .before) .path)
+insert-remake-requires t c κs = both (level t (c .before .before .before .before .before) .path)
 
 insert-same-length-2 : (t : ℕ) → insert-lts.Need-same-length-2 (calls t) (insert-at t) insert.Post
 insert-same-length-2 t c = search needs
 
 insert-returns-2 : (t : ℕ) → insert-lts.Need-returns-2 (calls t) (insert-at t) insert.Post
-insert-returns-2 t c = insert-here (level t (c .before .before .before .before .before .before)) (c .before .before .before .before .if2 .taken) (c .before .before .remake .ensures)
+insert-returns-2 t c = insert-here (level t (c .before .before .before .before .before .before .before .before)) (c .before .before .before .before .if2 .taken) (c .before .before .remake .ensures)
 
 insert-insert-requires : (t : ℕ) → insert-lts.Need-insert-requires (calls t) (insert-at t) insert.Post
-insert-insert-requires t c κs = down-left (level t (c .before .before .before .before .before) .path) (c .before .before .before .before .before .before .before .before .before .pre .0)
+insert-insert-requires t c κs = down-left (level t (c .before .before .before .before .before .before .before) .path) (c .before .before .before .before .before .before .before .before .before .before .before .pre .0)
 
 insert-enum-known-left : (t : ℕ) → insert-lts.Need-enum-known-left (calls t) (insert-at t) insert.Post
 insert-enum-known-left t c = search needs
@@ -75,19 +74,19 @@ insert-same-length-3 : (t : ℕ) → insert-lts.Need-same-length-3 (calls t) (in
 insert-same-length-3 t c = search needs
 
 insert-returns-3 : (t : ℕ) → insert-lts.Need-returns-3 (calls t) (insert-at t) insert.Post
-insert-returns-3 t c = above-stop (insert-left (level t (c .before .before .before .before .before .before .before .before .before .before)) (c .before .before .before .before .before .before .if3 .taken)) (told _ _ (c .enum-told .given .1) (c .before .before .before .before .insert .ensures))
+insert-returns-3 t c = above-stop (insert-left (level t (c .before .before .before .before .before .before .before .before .before .before .before .before)) (c .before .before .before .before .before .before .if3 .taken)) (told _ _ (c .enum-told .given .1) (c .before .before .before .before .insert .ensures))
 
 insert-remake-requires-2 : (t : ℕ) → insert-lts.Need-remake-requires-2 (calls t) (insert-at t) insert.Post
-insert-remake-requires-2 t c κs = insert-left-asks (level t (c .before .before .before .before .before .before .before .before .before .before .before .before)) (told _ _ (c .before .before .left .given .1) (c .before .before .before .before .before .before .insert .ensures))
+insert-remake-requires-2 t c κs = insert-left-asks (level t (c .before .before .before .before .before .before .before .before .before .before .before .before .before .before)) (told _ _ (c .before .before .left .given .1) (c .before .before .before .before .before .before .insert .ensures))
 
 insert-same-length-4 : (t : ℕ) → insert-lts.Need-same-length-4 (calls t) (insert-at t) insert.Post
 insert-same-length-4 t c = search needs
 
 insert-returns-4 : (t : ℕ) → insert-lts.Need-returns-4 (calls t) (insert-at t) insert.Post
-insert-returns-4 t c = above-last (insert-left (level t (c .before .before .before .before .before .before .before .before .before .before .before .before .before .before .before)) (c .before .before .before .before .before .before .before .before .before .before .before .if3 .taken)) (told _ _ (c .before .before .before .before .before .left .given .1) (c .before .before .before .before .before .before .before .before .before .insert .ensures)) (c .before .before .remake2 .ensures)
+insert-returns-4 t c = above-last (insert-left (level t (c .before .before .before .before .before .before .before .before .before .before .before .before .before .before .before .before .before)) (c .before .before .before .before .before .before .before .before .before .before .before .if3 .taken)) (told _ _ (c .before .before .before .before .before .left .given .1) (c .before .before .before .before .before .before .before .before .before .insert .ensures)) (c .before .before .remake2 .ensures)
 
 insert-insert-requires-2 : (t : ℕ) → insert-lts.Need-insert-requires-2 (calls t) (insert-at t) insert.Post
-insert-insert-requires-2 t c κs = down-right (level t (c .before .before .before .before .before) .path) (c .before .before .before .before .before .before .before .before .before .pre .0)
+insert-insert-requires-2 t c κs = down-right (level t (c .before .before .before .before .before .before .before) .path) (c .before .before .before .before .before .before .before .before .before .before .before .pre .0)
 
 insert-enum-known-right : (t : ℕ) → insert-lts.Need-enum-known-right (calls t) (insert-at t) insert.Post
 insert-enum-known-right t c = search needs
@@ -99,16 +98,16 @@ insert-same-length-5 : (t : ℕ) → insert-lts.Need-same-length-5 (calls t) (in
 insert-same-length-5 t c = search needs
 
 insert-returns-5 : (t : ℕ) → insert-lts.Need-returns-5 (calls t) (insert-at t) insert.Post
-insert-returns-5 t c = above-stop (insert-right (level t (c .before .before .before .before .before .before .before .before .before .before)) (c .before .before .before .before .before .before .before .before .if2 .left) (c .before .before .before .before .before .before .if3 .left)) (told _ _ (c .enum-told2 .given .1) (c .before .before .before .before .insert2 .ensures))
+insert-returns-5 t c = above-stop (insert-right (level t (c .before .before .before .before .before .before .before .before .before .before .before .before)) (c .before .before .before .before .before .before .before .before .if2 .left) (c .before .before .before .before .before .before .if3 .left)) (told _ _ (c .enum-told2 .given .1) (c .before .before .before .before .insert2 .ensures))
 
 insert-remake-requires-3 : (t : ℕ) → insert-lts.Need-remake-requires-3 (calls t) (insert-at t) insert.Post
-insert-remake-requires-3 t c κs = insert-right-asks (level t (c .before .before .before .before .before .before .before .before .before .before .before .before)) (told _ _ (c .before .before .right .given .1) (c .before .before .before .before .before .before .insert2 .ensures))
+insert-remake-requires-3 t c κs = insert-right-asks (level t (c .before .before .before .before .before .before .before .before .before .before .before .before .before .before)) (told _ _ (c .before .before .right .given .1) (c .before .before .before .before .before .before .insert2 .ensures))
 
 insert-same-length-6 : (t : ℕ) → insert-lts.Need-same-length-6 (calls t) (insert-at t) insert.Post
 insert-same-length-6 t c = search needs
 
 insert-returns-6 : (t : ℕ) → insert-lts.Need-returns-6 (calls t) (insert-at t) insert.Post
-insert-returns-6 t c = above-last (insert-right (level t (c .before .before .before .before .before .before .before .before .before .before .before .before .before .before .before)) (c .before .before .before .before .before .before .before .before .before .before .before .before .before .if2 .left) (c .before .before .before .before .before .before .before .before .before .before .before .if3 .left)) (told _ _ (c .before .before .before .before .before .right .given .1) (c .before .before .before .before .before .before .before .before .before .insert2 .ensures)) (c .before .before .remake3 .ensures)
+insert-returns-6 t c = above-last-right (insert-right (level t (c .before .before .before .before .before .before .before .before .before .before .before .before .before .before .before .before .before)) (c .before .before .before .before .before .before .before .before .before .before .before .before .before .if2 .left) (c .before .before .before .before .before .before .before .before .before .before .before .if3 .left)) (told _ _ (c .before .before .before .before .before .right .given .1) (c .before .before .before .before .before .before .before .before .before .insert2 .ensures)) (c .before .before .remake3 .ensures)
 
 pub +insert-spec : {M : Type 1} → statement M
 +insert-spec = close μ-insert λ t. insert-lts.spec (calls t)
@@ -117,7 +116,7 @@ pub +insert-spec : {M : Type 1} → statement M
     (insert-make-requires t)
     (insert-same-length t)
     (insert-returns t)
-    (insert-read-requires t)
+    (insert-take-apart-requires t)
     (insert-remake-requires t)
     (insert-same-length-2 t)
     (insert-returns-2 t)

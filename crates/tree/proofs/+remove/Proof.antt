@@ -6,21 +6,21 @@ use borrow.Fn.PlainCycle.{Measures, is, falls, and}
 use Rattle.tree.proofs.remove.Reads as remove
 use Rattle.tree.proofs.remove.Kinds as remove-kinds
 use Rattle.tree.proofs.+remove.Lts-remove as remove-lts
-use Rattle.block.proofs.read.Reads as read-reads
+use Rattle.block.proofs.apart.take_apart.Reads as take-apart-reads
 use Rattle.tree.proofs.balanced.Reads as balanced-reads
 use Rattle.tree.proofs.without_key.Reads as without-key-reads
 use Rattle.tree.proofs.+remove.{statement}
 use Rattle.tree.proofs.+remove.Tie.{close}
-use Rattle.block.proofs.read.Kinds as read-kinds
+use Rattle.block.proofs.apart.take_apart.Kinds as take-apart-kinds
 use Rattle.tree.proofs.balanced.Kinds as balanced-kinds
 use Rattle.tree.proofs.without_key.Kinds as without-key-kinds
 use Rattle.model.specs.Block.{heap}
 use Rattle.model.specs.Heap.{sizeAt}
 use Rattle.model.proofs.Lookups.{link-occupied}
 use Rattle.block.proofs.Outcomes.{told}
-use Rattle.block.proofs.Levels.{read-asks, above-stop, above-last}
-use Rattle.tree.proofs.Paths.{down-left, down-right}
-use Rattle.tree.proofs.Removes.{Removing, remove-none, remove-here, remove-asks, remove-left, remove-right, remove-left-asks, remove-right-asks}
+use Rattle.block.proofs.Levels.{above-stop, above-last, above-last-right}
+use Rattle.tree.proofs.Paths.{both, down-left, down-right}
+use Rattle.tree.proofs.Removes.{Removing, remove-none, remove-here, remove-left, remove-right, remove-left-asks, remove-right-asks}
 
 abbrev μ-remove : Measures 1 remove-kinds.ps ℕ
 μ-remove κs a = sizeAt (heap (a .0 .now)) (a .1 .0)
@@ -31,32 +31,32 @@ remove-at t = and 1 remove-kinds.ps (is 1 remove-kinds.ps μ-remove t) remove.Pr
 abbrev remove-below : ℕ → In 1 remove-kinds.ps
 remove-below t = and 1 remove-kinds.ps (falls 1 remove-kinds.ps _<_ μ-remove t) remove.Pre
 
-abbrev calls : (t : ℕ) → In 1 read-kinds.ps × Out 1 read-kinds.ps read-kinds.r × In 1 without-key-kinds.ps × Out 1 without-key-kinds.ps without-key-kinds.r × In 1 remove-kinds.ps × Out 1 remove-kinds.ps remove-kinds.r × In 1 balanced-kinds.ps × Out 1 balanced-kinds.ps balanced-kinds.r
-calls t = (read-reads.Asked, read-reads.Learnt, without-key-reads.Asked, without-key-reads.Learnt, remove-below t, remove.Post, balanced-reads.Asked, balanced-reads.Learnt)
+abbrev calls : (t : ℕ) → In 1 take-apart-kinds.ps × Out 1 take-apart-kinds.ps take-apart-kinds.r × In 1 without-key-kinds.ps × Out 1 without-key-kinds.ps without-key-kinds.r × In 1 remove-kinds.ps × Out 1 remove-kinds.ps remove-kinds.r × In 1 balanced-kinds.ps × Out 1 balanced-kinds.ps balanced-kinds.r
+calls t = (take-apart-reads.Asked, take-apart-reads.Learnt, without-key-reads.Asked, without-key-reads.Learnt, remove-below t, remove.Post, balanced-reads.Asked, balanced-reads.Learnt)
 
-level : (t : ℕ) (c : remove-lts.After-read (calls t) (remove-at t) remove.Post) → let a = c .before .before .before .before .args in Removing (a .b .now) (a .n) (c .read .result) (a .key)
+level : (t : ℕ) (c : remove-lts.After-take-apart (calls t) (remove-at t) remove.Post) → let a = c .before .before .before .before .args in Removing (a .b .now) (c .take-apart .last .0) (a .n) (c .take-apart .result) (a .key)
 level t c =
     let st = c .before .before .before .before in
     let o = link-occupied (heap (st .args .b .now)) (st .args .n) (st .pre .1 .1) (c .before .before .if1 .left) in
-    record { path = record { level = record { running = st .pre .1 .0; occupied = o; is = c .read .ensures }; small = st .pre .1 .2 } }
+    record { path = record { level = record { running = st .pre .1 .0 .running; occupied = o; is = c .take-apart .ensures .0; apart = c .take-apart .ensures .1 }; holding = st .pre .1 .0; small = st .pre .1 .2 } }
 
 remove-returns : (t : ℕ) → remove-lts.Need-returns (calls t) (remove-at t) remove.Post
-remove-returns t c = let st = c .before .before in remove-none (st .args .n) (st .args .key) (c .if1 .taken) (st .pre .1 .0)
+remove-returns t c = let st = c .before .before in remove-none (st .args .n) (st .args .key) (c .if1 .taken) (st .pre .1 .0 .running)
 
-remove-read-requires : (t : ℕ) → remove-lts.Need-read-requires (calls t) (remove-at t) remove.Post
-remove-read-requires t c κs = let st = c .before .before .before in read-asks (st .args .n) (st .pre .1 .0) (link-occupied (heap (st .args .b .now)) (st .args .n) (st .pre .1 .1) (c .before .if1 .left))
+remove-take-apart-requires : (t : ℕ) → remove-lts.Need-take-apart-requires (calls t) (remove-at t) remove.Post
+remove-take-apart-requires t c κs = let st = c .before .before .before in (st .pre .1 .0 .running, link-occupied (heap (st .args .b .now)) (st .args .n) (st .pre .1 .1) (c .before .if1 .left))
 
 remove-without-key-requires : (t : ℕ) → remove-lts.Need-without-key-requires (calls t) (remove-at t) remove.Post
-remove-without-key-requires t c κs = remove-asks (level t (c .before .before .before))
+remove-without-key-requires t c κs = both (level t (c .before .before .before .before .before) .path)
 
 remove-same-length : (t : ℕ) → remove-lts.Need-same-length (calls t) (remove-at t) remove.Post
 remove-same-length t c = search needs
 
 remove-returns-2 : (t : ℕ) → remove-lts.Need-returns-2 (calls t) (remove-at t) remove.Post
-remove-returns-2 t c = remove-here (level t (c .before .before .before .before .before .before)) (c .before .before .before .before .if2 .taken) (c .before .before .without-key .ensures)
+remove-returns-2 t c = remove-here (level t (c .before .before .before .before .before .before .before .before)) (c .before .before .before .before .if2 .taken) (c .before .before .without-key .ensures)
 
 remove-remove-requires : (t : ℕ) → remove-lts.Need-remove-requires (calls t) (remove-at t) remove.Post
-remove-remove-requires t c κs = down-left (level t (c .before .before .before .before .before) .path) (c .before .before .before .before .before .before .before .before .before .pre .0)
+remove-remove-requires t c κs = down-left (level t (c .before .before .before .before .before .before .before) .path) (c .before .before .before .before .before .before .before .before .before .before .before .pre .0)
 
 remove-enum-known-left : (t : ℕ) → remove-lts.Need-enum-known-left (calls t) (remove-at t) remove.Post
 remove-enum-known-left t c = search needs
@@ -68,19 +68,19 @@ remove-same-length-2 : (t : ℕ) → remove-lts.Need-same-length-2 (calls t) (re
 remove-same-length-2 t c = search needs
 
 remove-returns-3 : (t : ℕ) → remove-lts.Need-returns-3 (calls t) (remove-at t) remove.Post
-remove-returns-3 t c = above-stop (remove-left (level t (c .before .before .before .before .before .before .before .before .before .before)) (c .before .before .before .before .before .before .if3 .taken)) (told _ _ (c .enum-told .given .1) (c .before .before .before .before .remove .ensures))
+remove-returns-3 t c = above-stop (remove-left (level t (c .before .before .before .before .before .before .before .before .before .before .before .before)) (c .before .before .before .before .before .before .if3 .taken)) (told _ _ (c .enum-told .given .1) (c .before .before .before .before .remove .ensures))
 
 remove-balanced-requires : (t : ℕ) → remove-lts.Need-balanced-requires (calls t) (remove-at t) remove.Post
-remove-balanced-requires t c κs = remove-left-asks (level t (c .before .before .before .before .before .before .before .before .before .before .before .before)) (told _ _ (c .before .before .left .given .1) (c .before .before .before .before .before .before .remove .ensures))
+remove-balanced-requires t c κs = remove-left-asks (level t (c .before .before .before .before .before .before .before .before .before .before .before .before .before .before)) (told _ _ (c .before .before .left .given .1) (c .before .before .before .before .before .before .remove .ensures))
 
 remove-same-length-3 : (t : ℕ) → remove-lts.Need-same-length-3 (calls t) (remove-at t) remove.Post
 remove-same-length-3 t c = search needs
 
 remove-returns-4 : (t : ℕ) → remove-lts.Need-returns-4 (calls t) (remove-at t) remove.Post
-remove-returns-4 t c = above-last (remove-left (level t (c .before .before .before .before .before .before .before .before .before .before .before .before .before .before .before)) (c .before .before .before .before .before .before .before .before .before .before .before .if3 .taken)) (told _ _ (c .before .before .before .before .before .left .given .1) (c .before .before .before .before .before .before .before .before .before .remove .ensures)) (c .before .before .balanced .ensures)
+remove-returns-4 t c = above-last (remove-left (level t (c .before .before .before .before .before .before .before .before .before .before .before .before .before .before .before .before .before)) (c .before .before .before .before .before .before .before .before .before .before .before .if3 .taken)) (told _ _ (c .before .before .before .before .before .left .given .1) (c .before .before .before .before .before .before .before .before .before .remove .ensures)) (c .before .before .balanced .ensures)
 
 remove-remove-requires-2 : (t : ℕ) → remove-lts.Need-remove-requires-2 (calls t) (remove-at t) remove.Post
-remove-remove-requires-2 t c κs = down-right (level t (c .before .before .before .before .before) .path) (c .before .before .before .before .before .before .before .before .before .pre .0)
+remove-remove-requires-2 t c κs = down-right (level t (c .before .before .before .before .before .before .before) .path) (c .before .before .before .before .before .before .before .before .before .before .before .pre .0)
 
 remove-enum-known-right : (t : ℕ) → remove-lts.Need-enum-known-right (calls t) (remove-at t) remove.Post
 remove-enum-known-right t c = search needs
@@ -92,23 +92,23 @@ remove-same-length-4 : (t : ℕ) → remove-lts.Need-same-length-4 (calls t) (re
 remove-same-length-4 t c = search needs
 
 remove-returns-5 : (t : ℕ) → remove-lts.Need-returns-5 (calls t) (remove-at t) remove.Post
-remove-returns-5 t c = above-stop (remove-right (level t (c .before .before .before .before .before .before .before .before .before .before)) (c .before .before .before .before .before .before .before .before .if2 .left) (c .before .before .before .before .before .before .if3 .left)) (told _ _ (c .enum-told2 .given .1) (c .before .before .before .before .remove2 .ensures))
+remove-returns-5 t c = above-stop (remove-right (level t (c .before .before .before .before .before .before .before .before .before .before .before .before)) (c .before .before .before .before .before .before .before .before .if2 .left) (c .before .before .before .before .before .before .if3 .left)) (told _ _ (c .enum-told2 .given .1) (c .before .before .before .before .remove2 .ensures))
 
 remove-balanced-requires-2 : (t : ℕ) → remove-lts.Need-balanced-requires-2 (calls t) (remove-at t) remove.Post
-remove-balanced-requires-2 t c κs = remove-right-asks (level t (c .before .before .before .before .before .before .before .before .before .before .before .before)) (told _ _ (c .before .before .right .given .1) (c .before .before .before .before .before .before .remove2 .ensures))
+remove-balanced-requires-2 t c κs = remove-right-asks (level t (c .before .before .before .before .before .before .before .before .before .before .before .before .before .before)) (told _ _ (c .before .before .right .given .1) (c .before .before .before .before .before .before .remove2 .ensures))
 
 remove-same-length-5 : (t : ℕ) → remove-lts.Need-same-length-5 (calls t) (remove-at t) remove.Post
 remove-same-length-5 t c = search needs
 
 remove-returns-6 : (t : ℕ) → remove-lts.Need-returns-6 (calls t) (remove-at t) remove.Post
-remove-returns-6 t c = above-last (remove-right (level t (c .before .before .before .before .before .before .before .before .before .before .before .before .before .before .before)) (c .before .before .before .before .before .before .before .before .before .before .before .before .before .if2 .left) (c .before .before .before .before .before .before .before .before .before .before .before .if3 .left)) (told _ _ (c .before .before .before .before .before .right .given .1) (c .before .before .before .before .before .before .before .before .before .remove2 .ensures)) (c .before .before .balanced2 .ensures)
+remove-returns-6 t c = above-last-right (remove-right (level t (c .before .before .before .before .before .before .before .before .before .before .before .before .before .before .before .before .before)) (c .before .before .before .before .before .before .before .before .before .before .before .before .before .if2 .left) (c .before .before .before .before .before .before .before .before .before .before .before .if3 .left)) (told _ _ (c .before .before .before .before .before .right .given .1) (c .before .before .before .before .before .before .before .before .before .remove2 .ensures)) (c .before .before .balanced2 .ensures)
 
 pub +remove-spec : {M : Type 1} → statement M
 +remove-spec = close μ-remove λ t. remove-lts.spec (calls t)
     (remove-at t)
     remove.Post
     (remove-returns t)
-    (remove-read-requires t)
+    (remove-take-apart-requires t)
     (remove-without-key-requires t)
     (remove-same-length t)
     (remove-returns-2 t)

@@ -4,42 +4,44 @@ use native.Mathlib.Omega.{arith}
 use Rattle.tree.proofs.rotate_left.Statement.{statement}
 use Rattle.tree.proofs.rotate_left.Tie as tie
 use Rattle.block.proofs.Outcomes.{told}
-use Rattle.block.proofs.Levels.{Level, read-asks, read-left, read-right, read-size, above-stop, above-last}
-use Rattle.tree.proofs.Turns.{Heavy, together, left-asks, left-asks-2, left-once, left-inner, left-twice}
+use Rattle.block.proofs.Levels.{Level, read-left, read-right, read-size, above-stop, above-last}
+use Rattle.tree.proofs.Turns.{swapped, Heavy, together, left-asks, left-asks-2, left-once, left-inner, left-twice}
 
-level : (c : tie.After-read) → let a = c .before .before .before .args in Level (a .b .now) (a .right) (c .read .result)
+level : (c : tie.After-take-apart) → let a = c .before .before .before .args in Level (a .b .now) (c .take-apart .last .0) (a .right) (c .take-apart .result)
 level c =
     let p = c .before .before .before .pre in
-    record { running = p .0; occupied = p .2; is = c .read .ensures }
+    record { running = p .0 .running; occupied = p .2; is = c .take-apart .ensures .0; apart = c .take-apart .ensures .1 }
 
-heavy : (c : tie.After-size-at2) → let a = c .before .before .before .before .before .before .before .args in Heavy (a .b .now) (a .key) (a .value) (a .right) (a .left) (c .before .before .before .before .read .result) (c .before .before .size-at .result) (c .size-at2 .result)
+heavy : (c : tie.After-size-at2) → let a = c .before .before .before .before .before .before .before .before .before .args in Heavy (a .b .now) (c .before .before .before .before .before .before .take-apart .last .0) (a .key) (a .value) (a .right) (a .left) (c .before .before .before .before .before .before .take-apart .result) (c .before .before .size-at .result) (c .size-at2 .result)
 heavy c =
-    let p = c .before .before .before .before .before .before .before .pre in
+    let p = c .before .before .before .before .before .before .before .before .before .pre in
     record {
-      level = level (c .before .before .before .before);
-      other = p .1;
+      level = level (c .before .before .before .before .before .before);
+      holding = swapped (p .0);
       small = omega (arith, p .3);
       left = c .before .before .size-at .ensures;
       right = c .size-at2 .ensures;
     }
 
-read-requires : tie.Need-read-requires
-read-requires c κs =
+take-apart-requires : tie.Need-take-apart-requires
+take-apart-requires c κs =
     let st = c .before .before in
-    read-asks (st .args .right) (st .pre .0) (st .pre .2)
+    (st .pre .0 .running, st .pre .2)
 
 size-at-requires : tie.Need-size-at-requires
 size-at-requires c κs =
-    let p = c .before .before .before .before .pre in
-    (p .0 .shaped, p .0 .linked, read-left (level (c .before)))
+    let L = level (c .before .before .before) in
+    let R = L .apart .came .running in
+    (R .shaped, R .linked, read-left L)
 
 add-left-weight : tie.Need-add-left-weight
-add-left-weight c = omega (arith, c .size-at .ensures, read-size (level (c .before .before)), c .before .before .before .before .before .pre .3)
+add-left-weight c = omega (arith, c .size-at .ensures, read-size (level (c .before .before .before .before)), c .before .before .before .before .before .before .before .pre .3)
 
 size-at-requires-2 : tie.Need-size-at-requires-2
 size-at-requires-2 c κs =
-    let p = c .before .before .before .before .before .before .pre in
-    (p .0 .shaped, p .0 .linked, read-right (level (c .before .before .before)))
+    let L = level (c .before .before .before .before .before) in
+    let R = L .apart .came .running in
+    (R .shaped, R .linked, read-right L)
 
 add-right-weight : tie.Need-add-right-weight
 add-right-weight c = omega (arith, together (heavy c))
@@ -88,7 +90,7 @@ pub rotate-left-spec : {M : Type 1} → statement M
 rotate-left-spec =
     tie.close
     (tie.spec
-    read-requires
+    take-apart-requires
     size-at-requires
     add-left-weight
     size-at-requires-2

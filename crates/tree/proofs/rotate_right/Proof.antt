@@ -4,42 +4,44 @@ use native.Mathlib.Omega.{arith}
 use Rattle.tree.proofs.rotate_right.Statement.{statement}
 use Rattle.tree.proofs.rotate_right.Tie as tie
 use Rattle.block.proofs.Outcomes.{told}
-use Rattle.block.proofs.Levels.{Level, read-asks, read-left, read-right, read-size, above-stop, above-last}
+use Rattle.block.proofs.Levels.{Level, read-left, read-right, read-size, above-stop, above-last-right}
 use Rattle.tree.proofs.Turns.{Heavy, together, right-asks, right-asks-2, right-once, right-inner, right-twice}
 
-level : (c : tie.After-read) → let a = c .before .before .before .args in Level (a .b .now) (a .left) (c .read .result)
+level : (c : tie.After-take-apart) → let a = c .before .before .before .args in Level (a .b .now) (c .take-apart .last .0) (a .left) (c .take-apart .result)
 level c =
     let p = c .before .before .before .pre in
-    record { running = p .0; occupied = p .1; is = c .read .ensures }
+    record { running = p .0 .running; occupied = p .1; is = c .take-apart .ensures .0; apart = c .take-apart .ensures .1 }
 
-heavy : (c : tie.After-size-at2) → let a = c .before .before .before .before .before .before .before .args in Heavy (a .b .now) (a .key) (a .value) (a .left) (a .right) (c .before .before .before .before .read .result) (c .before .before .size-at .result) (c .size-at2 .result)
+heavy : (c : tie.After-size-at2) → let a = c .before .before .before .before .before .before .before .before .before .args in Heavy (a .b .now) (c .before .before .before .before .before .before .take-apart .last .0) (a .key) (a .value) (a .left) (a .right) (c .before .before .before .before .before .before .take-apart .result) (c .before .before .size-at .result) (c .size-at2 .result)
 heavy c =
-    let p = c .before .before .before .before .before .before .before .pre in
+    let p = c .before .before .before .before .before .before .before .before .before .pre in
     record {
-      level = level (c .before .before .before .before);
-      other = p .2;
+      level = level (c .before .before .before .before .before .before);
+      holding = p .0;
       small = omega (arith, p .3);
       left = c .before .before .size-at .ensures;
       right = c .size-at2 .ensures;
     }
 
-read-requires : tie.Need-read-requires
-read-requires c κs =
+take-apart-requires : tie.Need-take-apart-requires
+take-apart-requires c κs =
     let st = c .before .before in
-    read-asks (st .args .left) (st .pre .0) (st .pre .1)
+    (st .pre .0 .running, st .pre .1)
 
 size-at-requires : tie.Need-size-at-requires
 size-at-requires c κs =
-    let p = c .before .before .before .before .pre in
-    (p .0 .shaped, p .0 .linked, read-left (level (c .before)))
+    let L = level (c .before .before .before) in
+    let R = L .apart .came .running in
+    (R .shaped, R .linked, read-left L)
 
 add-left-weight : tie.Need-add-left-weight
-add-left-weight c = omega (arith, c .size-at .ensures, read-size (level (c .before .before)), c .before .before .before .before .before .pre .3)
+add-left-weight c = omega (arith, c .size-at .ensures, read-size (level (c .before .before .before .before)), c .before .before .before .before .before .before .before .pre .3)
 
 size-at-requires-2 : tie.Need-size-at-requires-2
 size-at-requires-2 c κs =
-    let p = c .before .before .before .before .before .before .pre in
-    (p .0 .shaped, p .0 .linked, read-right (level (c .before .before .before)))
+    let L = level (c .before .before .before .before .before) in
+    let R = L .apart .came .running in
+    (R .shaped, R .linked, read-right L)
 
 add-right-weight : tie.Need-add-right-weight
 add-right-weight c = omega (arith, together (heavy c))
@@ -72,7 +74,7 @@ same-length-2 c = search needs
 
 returns-2 : tie.Need-returns-2
 returns-2 c =
-    above-last (right-once (heavy (c .before .before .before .before .before .before .before .before .before .before .before .before)) (omega (arith, c .before .before .before .before .before .before .before .before .before .before .before .if1 .taken))) (told _ _ (c .before .before .before .before .before .x .given .1) (c .before .before .before .before .before .before .before .before .before .make .ensures)) (c .before .before .make2 .ensures)
+    above-last-right (right-once (heavy (c .before .before .before .before .before .before .before .before .before .before .before .before)) (omega (arith, c .before .before .before .before .before .before .before .before .before .before .before .if1 .taken))) (told _ _ (c .before .before .before .before .before .x .given .1) (c .before .before .before .before .before .before .before .before .before .make .ensures)) (c .before .before .make2 .ensures)
 
 twice-requires : tie.Need-twice-requires
 twice-requires c κs = right-inner (heavy (c .before .before)) (omega (arith, c .before .if1 .left))
@@ -88,7 +90,7 @@ pub rotate-right-spec : {M : Type 1} → statement M
 rotate-right-spec =
     tie.close
     (tie.spec
-    read-requires
+    take-apart-requires
     size-at-requires
     add-left-weight
     size-at-requires-2

@@ -1,13 +1,14 @@
 -- Nothing is made: the empty tree is the outcome.
 use borrow.Author.Needs.{needs}
 use mathlib.Core.Path.{refl, _∙_}
+use mathlib.Core.List.{[]}
 use native.Mathlib.Omega.{arith}
 use Rattle.model.specs.Tree.{Ordered}
 use Rattle.model.specs.Calls.{Edit, clearing}
 use Rattle.block.specs.declared.Made.the-variants.{At}
 use Rattle.table.proofs.Admitting.{one-version, Admission, admission, one-known, admitted-edit}
 use Rattle.table.proofs.Settling.{Run, settle-asks, settled, plain-ended}
-use Rattle.table.proofs.Rules.{cleared}
+use Rattle.table.proofs.Rules.{cleared, no-pieces}
 use Rattle.table.proofs.edits.clear.Statement.{statement}
 use Rattle.table.proofs.edits.clear.Tie as tie
 
@@ -24,6 +25,8 @@ run c =
     record {
       begun = record { sound = A .sound; versions = one-known (A .first); legal = refl };
       low-is = c .makes-from .ensures;
+      pieces = [];
+      named = no-pieces _;
       out = cleared (A .sound);
       ordered = tt;
     }

@@ -6,7 +6,7 @@ use Rattle.model.specs.Calls.{Edit, copying}
 use Rattle.model.proofs.Versions.{version-ordered}
 use Rattle.block.specs.declared.Made.the-variants.{At}
 use Rattle.table.proofs.Admitting.{two-versions, Admission, admission, two-known, admitted-edit}
-use Rattle.table.proofs.Settling.{Source, Run, settle-asks, settled, plain-ended}
+use Rattle.table.proofs.Settling.{Source, source-pieces, Run, settle-asks, settled, plain-ended}
 use Rattle.table.proofs.Rules.{copied}
 use Rattle.table.proofs.edits.copy.Statement.{statement}
 use Rattle.table.proofs.edits.copy.Tie as tie
@@ -26,6 +26,8 @@ run c =
     record {
       begun = record { sound = A .sound; versions = two-known (A .first) (A .second); legal = refl };
       low-is = c .before .before .makes-from .ensures;
+      pieces = _;
+      named = source-pieces (source c);
       out = copied (source c);
       ordered = version-ordered (A .sound .sound) (c .before .before .before .before .before .before .before .before .args .src) (A .second);
     }

@@ -4,7 +4,7 @@ use mathlib.Core.Path.{_∙_}
 use native.Mathlib.Omega.{arith}
 use Rattle.model.specs.Calls.{Edit, lessening}
 use Rattle.table.proofs.Admitting.{Admission, admission, three-known, admitted-edit}
-use Rattle.table.proofs.Settling.{Source, Run, pair-asks, settle-asks, settled, plain-ended, rule-known, rule-unknown, rule-refused}
+use Rattle.table.proofs.Settling.{Source, Run, pair-pieces, pair-asks, settle-asks, settled, plain-ended, rule-known, rule-unknown, rule-refused}
 use Rattle.table.proofs.Rules.{lessened, lessened-ordered}
 use Rattle.table.proofs.edits.difference.Statement.{statement}
 use Rattle.table.proofs.edits.difference.Tie as tie
@@ -29,6 +29,8 @@ run c =
     record {
       begun = record { sound = A .sound; versions = three-known (A .first) (A .second) (A .third); legal = legal };
       low-is = c .before .before .before .before .before .before .makes-from .ensures;
+      pieces = _;
+      named = pair-pieces (S .0) (S .1);
       out = lessened (a .rule) (a .cancel) (S .0) (S .1) (c .difference .ensures);
       ordered = lessened-ordered (A .sound) (a .left) (a .right) (a .rule) (a .cancel) legal (A .second) (A .third);
     }

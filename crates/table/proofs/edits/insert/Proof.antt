@@ -7,7 +7,7 @@ use Rattle.model.proofs.Orders.{insert-ordered}
 use Rattle.model.proofs.Versions.{version-ordered}
 use Rattle.table.specs.Answers.{ended}
 use Rattle.table.proofs.Admitting.{two-versions, Admission, admission, two-known, admitted-edit}
-use Rattle.table.proofs.Settling.{Source, Run, read-asks, rule-asks, source-found, settle-asks, settled}
+use Rattle.table.proofs.Settling.{Source, source-pieces, Run, read-asks, rule-asks, source-found, settle-asks, settled}
 use Rattle.table.proofs.Rules.{inserted}
 use Rattle.table.proofs.edits.insert.Statement.{statement}
 use Rattle.table.proofs.edits.insert.Tie as tie
@@ -29,6 +29,8 @@ run c =
     record {
       begun = record { sound = A .sound; versions = two-known (A .first) (A .second); legal = refl };
       low-is = c .before .before .before .before .before .before .before .makes-from .ensures;
+      pieces = _;
+      named = source-pieces S;
       out = inserted S (c .before .before .before .find .result) (c .before .is-absent .result) (a .key) (a .value) (c .before .is-absent .ensures) (c .before .before .before .find .ensures) (c .insert .ensures);
       ordered = insert-ordered _ (a .key) (a .value) _ (version-ordered (S .sound .sound) (a .src) (S .known));
     }

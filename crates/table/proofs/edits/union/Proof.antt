@@ -6,7 +6,7 @@ use Rattle.model.specs.Calls.{Edit, uniting}
 use Rattle.model.proofs.Orders.{union-ordered}
 use Rattle.model.proofs.Versions.{version-ordered}
 use Rattle.table.proofs.Admitting.{Admission, admission, three-known, admitted-edit}
-use Rattle.table.proofs.Settling.{Source, Run, pair-asks, settle-asks, settled, plain-ended, rule-known, rule-unknown, rule-refused}
+use Rattle.table.proofs.Settling.{Source, Run, pair-pieces, pair-asks, settle-asks, settled, plain-ended, rule-known, rule-unknown, rule-refused}
 use Rattle.table.proofs.Rules.{united}
 use Rattle.table.proofs.edits.union.Statement.{statement}
 use Rattle.table.proofs.edits.union.Tie as tie
@@ -31,6 +31,8 @@ run c =
     record {
       begun = record { sound = A .sound; versions = three-known (A .first) (A .second) (A .third); legal = legal };
       low-is = c .before .before .before .before .before .before .makes-from .ensures;
+      pieces = _;
+      named = pair-pieces (S .0) (S .1);
       out = united (S .0) (S .1) (c .union .ensures);
       ordered = union-ordered _ _ _ _ (version-ordered (A .sound .sound) (a .left) (A .second)) (version-ordered (A .sound .sound) (a .right) (A .third));
     }

@@ -9,7 +9,7 @@ is-absent-requires : tie.Need-is-absent-requires
 is-absent-requires c κs = search needs
 
 returns : tie.Need-returns
-returns c = let st = c .before .before .before in removed-absent (st .args .f) (st .args .key) (st .pre .0) (st .pre .1) (st .pre .3) (sym (c .before .is-absent .ensures) ∙ c .if1 .taken)
+returns c = let st = c .before .before .before in removed-absent (st .args .f) (st .args .key) (st .pre .0 .running) (st .pre .1) (st .pre .3) (sym (c .before .is-absent .ensures) ∙ c .if1 .taken)
 
 remove-requires : tie.Need-remove-requires
 remove-requires c κs = search needs
