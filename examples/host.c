@@ -4,7 +4,7 @@
 
 #include "ksk.h"
 
-#define N 2048u
+#define N 2016u
 #define LINES 8u
 
 static uint32_t primary[KSK_BLOCK_WORDS(N)];
@@ -69,11 +69,13 @@ static void bring_up_to_date(uint32_t batch)
     expect_done("ksk_copy", ksk_copy(primary, KSK_BLOCK_WORDS(N), SENT, OPEN_CALLS));
 }
 
+/* An account's call numbers are a range, so its open calls hold what the version holds between the two ends. */
 static void print_account(uint32_t account)
 {
-    uint64_t topped, spent, unused;
+    uint64_t topped, spent, unused, open;
     expect_done("ksk_ledger_account", ksk_ledger_account(ledger, KSK_LEDGER_WORDS(ACCOUNTS), account, &topped, &spent, &unused));
-    printf("account %u: topped up %llu, spent %llu, free %llu\n", account, (unsigned long long)topped, (unsigned long long)spent, (unsigned long long)unused);
+    expect_done("ksk_held_between", ksk_held_between(primary, KSK_BLOCK_WORDS(N), OPEN_CALLS, CALL(account, 0u), CALL(account, 0xffffffu), &open));
+    printf("account %u: topped up %llu, spent %llu, in open calls %llu, free %llu\n", account, (unsigned long long)topped, (unsigned long long)spent, (unsigned long long)open, (unsigned long long)unused);
 }
 
 /* Account 1 opens two calls; one drops and its release reaches the standby, the other ends. */

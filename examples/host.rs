@@ -2,7 +2,7 @@
 
 mod ksk;
 
-use ksk::{Block, Declined, Inbox, Ledger, Refusal};
+use ksk::{Block, Inbox, Ledger, Refusal};
 use std::error::Error;
 
 /// The version that the ledger is over: it holds the open calls.
@@ -13,8 +13,8 @@ const SENT: u32 = 3;
 const EMPTY: u32 = 15;
 
 fn main() -> Result<(), Box<dyn Error>> {
-    let mut primary = Block::fresh(2048)?;
-    let mut standby = Block::fresh(2048)?;
+    let mut primary = Block::fresh(2016)?;
+    let mut standby = Block::fresh(2016)?;
     for call in 1..=3 {
         primary.insert(0, 0, call, 10 * call)?;
         standby.insert(0, 0, call, 10 * call)?;
@@ -54,16 +54,16 @@ fn accounts(primary: &mut Block, standby: &mut Block) -> Result<(), Box<dyn Erro
     ledger.top_up(1, 100)?;
     ledger.reserve(primary, OPEN_CALLS, call(5), 30)?;
     ledger.reserve(primary, OPEN_CALLS, call(6), 40)?;
-    print_account(&ledger, 1)?;
+    print_account(&ledger, primary, 1)?;
     bring_up_to_date(primary, 8, standby)?;
     print(standby, OPEN_CALLS)?;
     ledger.release(primary, OPEN_CALLS, call(5))?;
     println!("call {} dropped", call(5));
-    print_account(&ledger, 1)?;
+    print_account(&ledger, primary, 1)?;
     bring_up_to_date(primary, 9, standby)?;
     print(standby, OPEN_CALLS)?;
     ledger.settle(primary, OPEN_CALLS, call(6), 12)?;
-    print_account(&ledger, 1)?;
+    print_account(&ledger, primary, 1)?;
     Ok(())
 }
 
@@ -73,8 +73,10 @@ fn bring_up_to_date(primary: &mut Block, batch: u32, standby: &mut Block) -> Res
     primary.copy(SENT, OPEN_CALLS)
 }
 
-fn print_account(ledger: &Ledger, account: u32) -> Result<(), Declined> {
+/// An account's call numbers are a range, so its open calls hold what the version holds between the two ends.
+fn print_account(ledger: &Ledger, block: &Block, account: u32) -> Result<(), Box<dyn Error>> {
     let t = ledger.account(account)?;
-    println!("account {account}: topped up {}, spent {}, free {}", t.topped, t.spent, t.free);
+    let open = block.held_between(OPEN_CALLS, account << 24, account << 24 | 0xff_ffff)?;
+    println!("account {account}: topped up {}, spent {}, in open calls {open}, free {}", t.topped, t.spent, t.free);
     Ok(())
 }

@@ -9,6 +9,8 @@ extern "C" {
     fn ksk_fresh(block: *mut u32, words: usize, n: c_uint) -> c_uint;
     fn ksk_lookup(block: *const u32, words: usize, version: c_uint, key: c_uint, found: *mut u32, value: *mut u32) -> c_uint;
     fn ksk_size(block: *const u32, words: usize, version: c_uint, size: *mut u32) -> c_uint;
+    fn ksk_held(block: *const u32, words: usize, version: c_uint, minutes: *mut u64) -> c_uint;
+    fn ksk_held_between(block: *const u32, words: usize, version: c_uint, first: c_uint, last: c_uint, minutes: *mut u64) -> c_uint;
     fn ksk_insert(block: *mut u32, words: usize, dest: c_uint, source: c_uint, key: c_uint, value: c_uint, had: *mut u32, old: *mut u32) -> c_uint;
     fn ksk_remove(block: *mut u32, words: usize, dest: c_uint, source: c_uint, key: c_uint, had: *mut u32, old: *mut u32) -> c_uint;
     fn ksk_copy(block: *mut u32, words: usize, dest: c_uint, source: c_uint) -> c_uint;
@@ -112,7 +114,7 @@ pub struct Block {
 impl Block {
     /// Sixteen empty versions in `n` nodes, a multiple of 32 from 32 to 4,096.
     pub fn fresh(n: u32) -> Result<Block, Refusal> {
-        let words = 17 + n as usize / 32 + 6 * n as usize;
+        let words = 17 + n as usize / 32 + 8 * n as usize;
         let mut block = Block { words: vec![0; words] };
         done(unsafe { ksk_fresh(block.words.as_mut_ptr(), block.words.len(), n) })?;
         Ok(block)
@@ -128,6 +130,20 @@ impl Block {
         let mut size = 0;
         done(unsafe { ksk_size(self.words.as_ptr(), self.words.len(), version, &mut size) })?;
         Ok(size)
+    }
+
+    /// The minutes that a version holds.
+    pub fn held(&self, version: u32) -> Result<u64, Refusal> {
+        let mut minutes = 0;
+        done(unsafe { ksk_held(self.words.as_ptr(), self.words.len(), version, &mut minutes) })?;
+        Ok(minutes)
+    }
+
+    /// The minutes that it holds from key `first` to key `last`, ends included.
+    pub fn held_between(&self, version: u32, first: u32, last: u32) -> Result<u64, Refusal> {
+        let mut minutes = 0;
+        done(unsafe { ksk_held_between(self.words.as_ptr(), self.words.len(), version, first, last, &mut minutes) })?;
+        Ok(minutes)
     }
 
     /// Version `dest` becomes version `source` with `value` under `key`; answers what stood there.

@@ -40,7 +40,7 @@ extern "C" {
 
 /* Sizes. N, the number of nodes, is a multiple of 32 from 32 to 4,096. */
 #define KSK_VERSIONS       16u
-#define KSK_BLOCK_WORDS(n) (17u + (n) / 32u + 6u * (n))
+#define KSK_BLOCK_WORDS(n) (17u + (n) / 32u + 8u * (n))
 #define KSK_INBOX_WORDS    130u
 #define KSK_LEDGER_WORDS(accounts) (3u * (accounts)) /* words of 64 bits: topped-up, spent and free minutes of each account */
 #define KSK_ENTRY_WORDS    4u  /* a listing's entry: key, left value, 1 if common else 0, right value or 0 */
@@ -58,6 +58,12 @@ uint32_t ksk_lookup(const uint32_t *block, size_t words, uint32_t version, uint3
 
 /* The number of entries. */
 uint32_t ksk_size(const uint32_t *block, size_t words, uint32_t version, uint32_t *size);
+
+/* The minutes that a version holds: the sum of its entries' values. */
+uint32_t ksk_held(const uint32_t *block, size_t words, uint32_t version, uint64_t *minutes);
+
+/* The minutes that it holds from key first to key last, ends included; 0 where first is above last. */
+uint32_t ksk_held_between(const uint32_t *block, size_t words, uint32_t version, uint32_t first, uint32_t last, uint64_t *minutes);
 
 /* Version dest becomes version source with value under key; had and old tell what stood there. */
 uint32_t ksk_insert(uint32_t *block, size_t words, uint32_t dest, uint32_t source, uint32_t key, uint32_t value, uint32_t *had, uint32_t *old);

@@ -81,5 +81,5 @@ fn compared(rounds: usize) {
 fn main() {
     compared(5000);
     timed(4096);
-    timed(2048);
+    timed(2016);
 }

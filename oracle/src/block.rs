@@ -10,16 +10,20 @@ pub struct Node {
     pub right: u32,
     pub size: u32,
     pub count: u32,
+    pub sum: u64,
 }
+
+/// The words of a node: key, value, left, right, size, count, and the sum of the values below it, low and high.
+pub const WIDTH: usize = 8;
 
 /// The words of a block of N = n.
 pub fn length(n: usize) -> usize {
-    17 + n / 32 + 6 * n
+    17 + n / 32 + WIDTH * n
 }
 
 /// The place of a node's first word.
 pub fn place(n: usize, number: u32) -> usize {
-    17 + n / 32 + 6 * (number as usize - 1)
+    17 + n / 32 + WIDTH * (number as usize - 1)
 }
 
 /// The word and the bit that say whether a node is occupied.
@@ -44,7 +48,7 @@ impl<'a> Block<'a> {
 
     pub fn node(self, number: u32) -> Node {
         let at = place(self.n(), number);
-        let [key, value, left, right, size, count] = self.0[at..at + 6].try_into().unwrap();
-        Node { key, value, left, right, size, count }
+        let [key, value, left, right, size, count, low, high] = self.0[at..at + WIDTH].try_into().unwrap();
+        Node { key, value, left, right, size, count, sum: low as u64 | (high as u64) << 32 }
     }
 }

@@ -9,6 +9,14 @@ pub enum Call {
     Size {
         version: u32,
     },
+    Held {
+        version: u32,
+    },
+    HeldBetween {
+        version: u32,
+        first: u32,
+        last: u32,
+    },
     Insert {
         dest: u32,
         source: u32,
@@ -61,7 +69,7 @@ pub enum Call {
     },
 }
 
-/// The number, two fields in the order of the export's pointers, and the whole output: what was not written keeps its pattern.
+/// The number, two fields in the order of the export's pointers (minutes: their low and high words), and the whole output: what was not written keeps its pattern.
 #[derive(Clone, PartialEq, Eq, Debug, Default)]
 pub struct Reply {
     pub number: u32,
@@ -87,9 +95,12 @@ impl Call {
 
     pub fn versions(&self) -> Vec<u32> {
         match *self {
-            Call::Lookup { version, .. } | Call::Size { version } | Call::Clear { version } | Call::Receive { version, .. } => {
-                vec![version]
-            }
+            Call::Lookup { version, .. }
+            | Call::Size { version }
+            | Call::Held { version }
+            | Call::HeldBetween { version, .. }
+            | Call::Clear { version }
+            | Call::Receive { version, .. } => vec![version],
             Call::Insert { dest, source, .. } | Call::Remove { dest, source, .. } | Call::Copy { dest, source } => {
                 vec![dest, source]
             }

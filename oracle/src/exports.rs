@@ -9,6 +9,8 @@ extern "C" {
     fn ksk_fresh(block: *mut u32, words: usize, n: u32) -> u32;
     fn ksk_lookup(block: *const u32, words: usize, version: u32, key: u32, found: *mut u32, value: *mut u32) -> u32;
     fn ksk_size(block: *const u32, words: usize, version: u32, size: *mut u32) -> u32;
+    fn ksk_held(block: *const u32, words: usize, version: u32, minutes: *mut u64) -> u32;
+    fn ksk_held_between(block: *const u32, words: usize, version: u32, first: u32, last: u32, minutes: *mut u64) -> u32;
     fn ksk_insert(
         block: *mut u32,
         words: usize,
@@ -123,6 +125,18 @@ pub fn run_into(block: &mut [u32], inbox: &mut [u32], call: &Call, reply: &mut R
             Call::Size { version } => {
                 *x = STALE;
                 ksk_size(b, words, version, x)
+            }
+            Call::Held { version } => {
+                let mut minutes = u64::MAX;
+                let number = ksk_held(b, words, version, &mut minutes);
+                (*x, *y) = (minutes as u32, (minutes >> 32) as u32);
+                number
+            }
+            Call::HeldBetween { version, first, last } => {
+                let mut minutes = u64::MAX;
+                let number = ksk_held_between(b, words, version, first, last, &mut minutes);
+                (*x, *y) = (minutes as u32, (minutes >> 32) as u32);
+                number
             }
             _ => {
                 (*x, *y) = (STALE, STALE);

@@ -155,8 +155,10 @@ impl Mix {
             1 => random.pick(&EDGES),
             _ => 0,
         };
-        match random.below(6) {
+        match random.below(9) {
             0 => Call::Size { version },
+            6 => Call::Held { version },
+            7 | 8 => Call::HeldBetween { version, first: self.key(random), last: self.key(random) },
             1 | 2 => Call::List { left: version, right: self.version(random), start, room: random.below(4 * n + 8) },
             3 => {
                 let to = self.version(random);

@@ -51,12 +51,20 @@ fn on_copy(maps: &mut [Map], dest: u32, source: u32, edit: impl FnOnce(&mut Map)
     edit(&mut maps[dest as usize])
 }
 
+/// The sum over the original's own iteration, its low and its high word.
+fn sum(map: &Map, first: u32, last: u32) -> [u32; 2] {
+    let minutes: u64 = rows(map, &Map::new()).iter().filter(|row| first <= row[0] && row[0] <= last).map(|row| row[1] as u64).sum();
+    [minutes as u32, (minutes >> 32) as u32]
+}
+
 /// Follows a call that the export has done, and says where the original's answer differs.
 pub fn follow(maps: &mut [Map], call: &Call, reply: &Reply) -> Result<(), String> {
     let found = |value: Option<u32>| [value.is_some() as u32, value.unwrap_or(0)];
     match *call {
         Call::Lookup { version, key } => same("lookup", found(maps[version as usize].get(&key).copied()), reply.fields),
         Call::Size { version } => same("size", [maps[version as usize].len() as u32, 0], reply.fields),
+        Call::Held { version } => same("held", sum(&maps[version as usize], 0, u32::MAX), reply.fields),
+        Call::HeldBetween { version, first, last } => same("held", sum(&maps[version as usize], first, last), reply.fields),
         Call::List { left, right, start, .. } => {
             let rows = rows(&maps[left as usize], &maps[right as usize]);
             same("total", rows.len() as u32, reply.fields[1])?;

@@ -3,6 +3,7 @@
 pub mod cases;
 pub mod damage;
 pub mod exhaustive;
+pub mod held;
 pub mod histories;
 pub mod ledger;
 pub mod limits;

@@ -40,6 +40,8 @@ fn run(table: &mut Table, inbox: &mut [u32], call: &Call, reply: &mut Reply) -> 
     match *call {
         Call::Lookup { version, key } => reply.fields = found(rules::lookup(&tree(version), key)),
         Call::Size { version } => reply.fields = [rules::size(&tree(version)) as u32, 0],
+        Call::Held { version } => reply.fields = halves(minutes(&tree(version), 0, u32::MAX)),
+        Call::HeldBetween { version, first, last } => reply.fields = halves(minutes(&tree(version), first, last)),
         Call::List { left, right, start, room } => {
             let rows = walk::rows(&tree(left), &tree(right))?;
             let written = written(rows.len(), start, room / 4);
@@ -60,6 +62,17 @@ fn run(table: &mut Table, inbox: &mut [u32], call: &Call, reply: &mut Reply) -> 
         _ => reply.fields = edit(table, call)?,
     }
     Ok(())
+}
+
+/// Every entry is looked at.
+fn minutes(tree: &Tree, first: u32, last: u32) -> u64 {
+    let Some(node) = tree else { return 0 };
+    let own = if first <= node.key && node.key <= last { node.value as u64 } else { 0 };
+    minutes(&node.left, first, last) + own + minutes(&node.right, first, last)
+}
+
+fn halves(minutes: u64) -> [u32; 2] {
+    [minutes as u32, (minutes >> 32) as u32]
 }
 
 fn found(value: Option<u32>) -> [u32; 2] {

@@ -37,7 +37,7 @@ impl Fuel {
 
 const CALLS: usize = 800;
 
-/// Six versions of at most 48 keys: a block of N = 2,048 has room for every call.
+/// Six versions of at most 48 keys: a block of N = 2,016 has room for every call.
 const VERSIONS: usize = 6;
 const SMALL_KEYS: usize = 44;
 const EDGES: [u32; 4] = [1 << 31, (1 << 31) + 1, u32::MAX - 1, u32::MAX];

@@ -20,14 +20,24 @@ fn size(block: Block, link: u32) -> u64 {
     }
 }
 
+/// In more bits than three stored sums can need.
+fn sum(block: Block, link: u32) -> u128 {
+    if link == 0 {
+        0
+    } else {
+        block.node(link).sum as u128
+    }
+}
+
 fn node_ok(block: Block, number: u32) -> bool {
     let node = block.node(number);
     if !block.occupied(number) {
-        return [node.key, node.value, node.left, node.right, node.size, node.count] == [0; 6];
+        return [node.key, node.value, node.left, node.right, node.size, node.count] == [0; 6] && node.sum == 0;
     }
     link_ok(block, node.left)
         && link_ok(block, node.right)
         && node.size as u64 == 1 + size(block, node.left) + size(block, node.right)
+        && node.sum as u128 == node.value as u128 + sum(block, node.left) + sum(block, node.right)
 }
 
 /// Whether each key below a link lies between the bounds. Sizes fall along links by now, so this ends.

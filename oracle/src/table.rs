@@ -1,6 +1,6 @@
 //! Sixteen numbered trees, and the one block that shows them.
 
-use crate::block::{length, mark, place, Block};
+use crate::block::{length, mark, place, Block, WIDTH};
 use crate::rules::{Node, Tree};
 use std::rc::Rc;
 
@@ -39,9 +39,10 @@ impl Table {
         for (node, count) in self.counted().into_iter().flatten() {
             let (word, bit) = mark(node.number);
             words[word] |= bit;
-            let fields = [node.key, node.value, number(&node.left), number(&node.right), node.size as u32, count];
+            let sum = minutes(node);
+            let fields = [node.key, node.value, number(&node.left), number(&node.right), node.size as u32, count, sum as u32, (sum >> 32) as u32];
             let at = place(self.n, node.number);
-            words[at..at + 6].copy_from_slice(&fields);
+            words[at..at + WIDTH].copy_from_slice(&fields);
         }
         words
     }
@@ -51,6 +52,12 @@ impl Table {
         let nodes = self.counted();
         (1..=self.n as u32).filter(|&i| nodes[i as usize].is_none()).collect()
     }
+}
+
+/// The sum of the values below a node, added up one by one.
+fn minutes(node: &Node) -> u64 {
+    let below = |tree: &Tree| tree.as_ref().map_or(0, |node| minutes(node));
+    node.value as u64 + below(&node.left) + below(&node.right)
 }
 
 pub fn number(tree: &Tree) -> u32 {

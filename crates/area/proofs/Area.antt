@@ -8,7 +8,8 @@ use lib.ListN.{length, getD}
 use borrow.Author.Tests.{eq-eqb, ne-eqb}
 use native.Mathlib.Omega.{arith}
 use native.Mathlib.Decide.{decLt}
-use Rattle.model.specs.Heap.{Occupied, Named, sizeAt}
+use Rattle.model.specs.Block.{width}
+use Rattle.model.specs.Heap.{Occupied, Named, sizeAt, sumAt}
 use Rattle.area.specs.Area.{areaWord, area}
 
 -- a list ends
@@ -17,7 +18,7 @@ getD-past [] i h = refl
 getD-past (x ∷ l) zero h = absurd (omega arith)
 getD-past (x ∷ l) (suc i) h = getD-past l i (omega arith)
 
-pub areaWord-at : (a : List ℕ) (j i : ℕ) → 1 ≤ i → areaWord a j i ≡ getD a (6 * i - 6 + j) 0
+pub areaWord-at : (a : List ℕ) (j i : ℕ) → 1 ≤ i → areaWord a j i ≡ getD a (width * i - width + j) 0
 areaWord-at a j zero p = absurd (omega arith)
 areaWord-at a j (suc i) p = ap (λ k. getD a k 0) (omega arith)
 
@@ -31,13 +32,13 @@ module _ (a : List ℕ) where
   pub not-live : (x c : ℕ) → c ≡ areaWord a 5 x → c ≡ 0 → Occupied (area a) x → ⊥
   not-live x c e p o = true≢false (sym o ∙ dead x c e p)
 
-  pub within-area : (n x : ℕ) → length a ≡ 6 * n → Occupied (area a) x → (1 ≤ x) × (x ≤ n)
+  pub within-area : (n x : ℕ) → length a ≡ width * n → Occupied (area a) x → (1 ≤ x) × (x ≤ n)
   within-area n zero l o = absurd (true≢false (sym o))
   within-area n (suc x) l o = go (decLt x n)
     where
       go : Dec (x < n) → (1 ≤ suc x) × (suc x ≤ n)
       go (yes p) = (omega arith, omega arith)
-      go (no p) = absurd (not-live (suc x) 0 (sym (getD-past a (6 * x + 5) (omega arith))) refl o)
+      go (no p) = absurd (not-live (suc x) 0 (sym (getD-past a (width * x + 5) (omega arith))) refl o)
 
   pub named-zero : (x : ℕ) → x ≡ 0 → Named (area a) x
   named-zero zero e = tt
@@ -47,10 +48,14 @@ module _ (a : List ℕ) where
   occupied-named zero o = tt
   occupied-named (suc x) o = o
 
-  pub named-le : (n x : ℕ) → length a ≡ 6 * n → Named (area a) x → x ≤ n
+  pub named-le : (n x : ℕ) → length a ≡ width * n → Named (area a) x → x ≤ n
   named-le n zero l o = omega arith
   named-le n (suc x) l o = within-area n (suc x) l o .1
 
   pub sizeAt-some : (x : ℕ) → x ≢ 0 → sizeAt (area a) x ≡ areaWord a 4 x
   sizeAt-some zero p = absurd (p refl)
   sizeAt-some (suc x) p = refl
+
+  pub sumAt-some : (x : ℕ) → x ≢ 0 → sumAt (area a) x ≡ area a .sum x
+  sumAt-some zero p = absurd (p refl)
+  sumAt-some (suc x) p = refl

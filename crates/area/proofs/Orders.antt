@@ -8,6 +8,7 @@ use lib.Dec.{ltb}
 use native.Mathlib.Decide.{ℕ-discrete}
 use native.Mathlib.Omega.{arith}
 use Rattle.model.specs.Tree.{node, Entry, entries, AllBelow, AllAbove, Ordered}
+use Rattle.model.specs.Block.{width}
 use Rattle.model.specs.Heap.{Occupied, Named, load, tree, Linked}
 use Rattle.model.proofs.Loads.{tree-node, tree-ind, sizeAt-occupied}
 use Rattle.model.proofs.Lookups.{link-occupied}
@@ -184,7 +185,7 @@ module _ (a : List ℕ) (i j x e y k : ℕ) (ex : x ≡ areaWord a j i) (p : x �
   right-tells q = tells-ltb k y (λ b. side-yes (rw q b)) (λ ok. subst (λ d. Before (5 - d) y k) q (side-no ok))
 
 -- the area passes when its nodes do and its keys are in order
-module _ (a : List ℕ) (n : ℕ) (len : length a ≡ 6 * n) (L : Linked (area a)) where
+module _ (a : List ℕ) (n : ℕ) (len : length a ≡ width * n) (L : Linked (area a)) where
   pub area-yes : Each 0 n (OrderOk a) → AreaOk (area a)
   area-yes ok = record { linked = L; ordered = orders a L (λ x o. let w = within-area a n x len o in ok x (w .0) (w .1)) }
 

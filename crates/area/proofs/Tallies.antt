@@ -7,6 +7,7 @@ use lib.Seq.{getD-set-same, getD-set-other}
 use native.Mathlib.Omega.{arith}
 use native.Mathlib.Numerals.{add-one}
 use native.Mathlib.Decide.{ℕ-discrete}
+use Rattle.model.specs.Block.{width}
 use Rattle.model.specs.Heap.{Occupied, hit, hits}
 use Rattle.model.proofs.Counts.{hit-yes, hit-no}
 use Rattle.area.specs.Area.{areaWord, area, NodeOk, AtMost, Counts, LinkTally}
@@ -79,5 +80,5 @@ module _ (a : List ℕ) where
   }
 
   -- the links of a node that passed its test have places in the tally
-  pub link-le : (n i : ℕ) → length a ≡ 6 * n → NodeOk (area a) i → Occupied (area a) i → (areaWord a 2 i ≤ n) × (areaWord a 3 i ≤ n)
+  pub link-le : (n i : ℕ) → length a ≡ width * n → NodeOk (area a) i → Occupied (area a) i → (areaWord a 2 i ≤ n) × (areaWord a 3 i ≤ n)
   link-le n i len N o = (named-le a n (areaWord a 2 i) len (N .left o), named-le a n (areaWord a 3 i) len (N .right o))

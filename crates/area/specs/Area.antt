@@ -6,17 +6,18 @@ use mathlib.Core.List.{List}
 use lib.ListN.{length, getD}
 use lib.Dec.{eqb}
 use Rattle.model.specs.Tree.{Ordered}
-use Rattle.model.specs.Heap.{Heap, Occupied, Named, sizeAt, tree, hit, hits, Blank, Linked}
+use Rattle.model.specs.Block.{width, twoWords}
+use Rattle.model.specs.Heap.{Heap, Occupied, Named, sizeAt, sumAt, tree, hit, hits, Blank, Linked}
 
 -- word j of node n of the area a, in which node 1 comes first
 abbrev pub areaWord : List ℕ → ℕ → ℕ → ℕ
 areaWord a j zero = 0
-areaWord a j (suc n) = getD a (6 * n + j) 0
+areaWord a j (suc n) = getD a (width * n + j) 0
 
 -- The nodes of an area. Occupancy and roots lie outside it, so here the occupied nodes are those with a count, and no root names a node.
 abbrev pub area : List ℕ → Heap
 area a = record {
-  room = length a / 6;
+  room = length a / width;
   root = λ v. 0;
   occupied = λ n. not (eqb (areaWord a 5 n) 0);
   key = areaWord a 0;
@@ -25,6 +26,7 @@ area a = record {
   right = areaWord a 3;
   size = areaWord a 4;
   count = areaWord a 5;
+  sum = λ n. twoWords (areaWord a 6 n) (areaWord a 7 n);
 }
 
 -- what is asked of each node, order and count apart
@@ -32,6 +34,7 @@ pub record NodeOk (h : Heap) (n : ℕ) : Type 0 where
   pub left : Occupied h n → Named h (h .left n)
   pub right : Occupied h n → Named h (h .right n)
   pub size : Occupied h n → h .size n ≡ suc (sizeAt h (h .left n) + sizeAt h (h .right n))
+  pub sum : Occupied h n → h .sum n ≡ h .value n + (sumAt h (h .left n) + sumAt h (h .right n))
   pub blank : h .occupied n ≡ false → Blank h n
 
 -- what the area can say of itself

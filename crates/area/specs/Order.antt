@@ -6,12 +6,13 @@ use mathlib.Core.Bool.{true, false}
 use mathlib.Core.List.{List}
 use lib.ListN.{length, getD}
 use lib.Dec.{eqb}
+use Rattle.model.specs.Block.{width}
 use Rattle.model.specs.Heap.{Occupied, Named, sizeAt}
 use Rattle.area.specs.Area.{areaWord, area}
 
 -- the links j of the area lead to nodes of it, and sizes fall along them
 pub record Down (a : List ℕ) (j : ℕ) : Type 0 where
-  pub word : j < 6
+  pub word : j < width
   pub named : (m : ℕ) → Occupied (area a) m → Named (area a) (areaWord a j m)
   pub falls : (m : ℕ) → Occupied (area a) m → sizeAt (area a) (areaWord a j m) < sizeAt (area a) m
 

@@ -12,7 +12,7 @@ use native.Mathlib.Decide.{ℕ-discrete, decLt}
 use Rattle.model.specs.Tree.{leaf}
 use Rattle.area.proofs.Tallies.{zeros, at-most}
 use Rattle.model.specs.Heap.{Occupied, Named, load, tree, version}
-use Rattle.model.specs.Block.{word, room, nodeWord, bit, occupiedAt, heap, Shaped, SoundBlock}
+use Rattle.model.specs.Block.{word, room, width, nodeWord, bit, occupiedAt, heap, Shaped, SoundBlock}
 use Rattle.model.specs.Calls.{Fitting, freshBlock}
 
 pub fitting-shaped : (b : List ℕ) (n : ℕ) → n ≡ room b → Fitting (length b) n → Shaped b
@@ -28,11 +28,11 @@ fresh-room n = refl
 fresh-zero : (n i : ℕ) → 1 ≤ i → word (freshBlock n) i ≡ 0
 unfolding freshBlock
 fresh-zero n zero p = absurd (omega arith)
-fresh-zero n (suc i) p = omega (arith, at-most (replicate (16 + n / 32 + 6 * n) 0) 0 i (zeros (16 + n / 32 + 6 * n)))
+fresh-zero n (suc i) p = omega (arith, at-most (replicate (16 + n / 32 + width * n) 0) 0 i (zeros (16 + n / 32 + width * n)))
 
-fresh-long : (n : ℕ) → length (freshBlock n) ≡ 17 + n / 32 + 6 * n
+fresh-long : (n : ℕ) → length (freshBlock n) ≡ 17 + n / 32 + width * n
 unfolding freshBlock
-fresh-long n = omega (arith, length-replicate {A = ℕ} (16 + n / 32 + 6 * n) 0)
+fresh-long n = omega (arith, length-replicate {A = ℕ} (16 + n / 32 + width * n) 0)
 
 -- while it is written
 pub record Writing (b : List ℕ) (n i : ℕ) : Type 0 where
@@ -79,7 +79,7 @@ module _ (n words : ℕ) (F : Fitting words n) where
 
   fresh-word : (j m : ℕ) → nodeWord (freshBlock n) j m ≡ 0
   fresh-word j zero = refl
-  fresh-word j (suc m) = fresh-zero n (17 + room (freshBlock n) / 32 + 6 * m + j) (omega arith)
+  fresh-word j (suc m) = fresh-zero n (17 + room (freshBlock n) / 32 + width * m + j) (omega arith)
 
   fresh-named : (v : ℕ) → Named (heap (freshBlock n)) (word (freshBlock n) (1 + v))
   fresh-named v = rw (fresh-zero n (1 + v) (omega arith)) tt
@@ -95,7 +95,8 @@ module _ (n words : ℕ) (F : Fitting words n) where
           lefts = λ m o. absurd (none m o);
           rights = λ m o. absurd (none m o);
           sizes = λ m o. absurd (none m o);
-          blank = λ m p q z. record { key = fresh-word 0 m; value = fresh-word 1 m; left = fresh-word 2 m; right = fresh-word 3 m; size = fresh-word 4 m; count = fresh-word 5 m };
+          sums = λ m o. absurd (none m o);
+          blank = λ m p q z. record { key = fresh-word 0 m; value = fresh-word 1 m; left = fresh-word 2 m; right = fresh-word 3 m; size = fresh-word 4 m; count = fresh-word 5 m; sum = omega (arith, fresh-word 6 m, fresh-word 7 m) };
         };
         counts = λ m o. absurd (none m o);
         held = λ m o. absurd (none m o);

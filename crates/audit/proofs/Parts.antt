@@ -10,8 +10,8 @@ use native.Mathlib.Omega.{arith}
 use native.Mathlib.Nat.{le-of-eq}
 use native.Mathlib.Decide.{ℕ-discrete, decLt}
 use Rattle.model.specs.Tree.{Ordered}
-use Rattle.model.specs.Heap.{Heap, Occupied, Named, sizeAt, load, tree, refs, Linked, Kept, Sound}
-use Rattle.model.specs.Block.{word, room, nodeWord, occupiedAt, heap, Shaped, SoundBlock}
+use Rattle.model.specs.Heap.{Heap, Occupied, Named, sizeAt, sumAt, load, tree, refs, Linked, Kept, Sound}
+use Rattle.model.specs.Block.{word, room, width, nodeWord, twoWords, occupiedAt, heap, Shaped, SoundBlock}
 use Rattle.model.proofs.Steps.{refs-unoccupied}
 use Rattle.model.specs.Tells.{Tells, Each}
 use Rattle.area.specs.Area.{areaWord, area, AreaOk, LinkTally}
@@ -22,7 +22,7 @@ use Rattle.audit.specs.Whole.{nodesOf, RootsOk, RootTally, CountsOk}
 -- the area with the block's roots
 abbrev withRoots : List ℕ → (ℕ → ℕ) → Heap
 withRoots a R = record {
-  room = length a / 6;
+  room = length a / width;
   root = R;
   occupied = area a .occupied;
   key = areaWord a 0;
@@ -31,6 +31,7 @@ withRoots a R = record {
   right = areaWord a 3;
   size = areaWord a 4;
   count = areaWord a 5;
+  sum = area a .sum;
 }
 
 module _ (a : List ℕ) (R : ℕ → ℕ) where
@@ -53,6 +54,10 @@ module _ (a : List ℕ) (R : ℕ → ℕ) where
   size-roots zero = refl
   size-roots (suc n) = refl
 
+  sum-roots : (n : ℕ) → sumAt (area a) n ≡ sumAt (withRoots a R) n
+  sum-roots zero = refl
+  sum-roots (suc n) = refl
+
 -- what the audit finds
 pub record Parts (b a : List ℕ) : Type 0 where
   pub area-ok : AreaOk (area a)
@@ -61,14 +66,14 @@ pub record Parts (b a : List ℕ) : Type 0 where
   pub counts : Each 0 (room b) (λ n. areaWord a 5 n ≡ refs (heap b) n)
 
 module _ (b a : List ℕ) (B : Shaped b) (ea : a ≡ nodesOf b) where
-  pub area-long : length a ≡ 6 * room b
+  pub area-long : length a ≡ width * room b
   area-long = rw ea (length-drop (17 + room b / 32) b ∙ omega (arith, B .long))
 
   word-is : (j n : ℕ) → nodeWord b j n ≡ areaWord a j n
   word-is j zero = refl
-  word-is j (suc n) = rw ea (ap (word b) (omega arith) ∙ sym (getD-drop (17 + room b / 32) b (6 * n + j) 0))
+  word-is j (suc n) = rw ea (ap (word b) (omega arith) ∙ sym (getD-drop (17 + room b / 32) b (width * n + j) 0))
 
-  room-is : room b ≡ length a / 6
+  room-is : room b ≡ length a / width
   room-is = omega (arith, area-long)
 
   abbrev roots : ℕ → ℕ
@@ -81,7 +86,7 @@ module _ (b a : List ℕ) (B : Shaped b) (ea : a ≡ nodesOf b) where
       where
         go : Dec (n < room b) → occupiedAt b (suc n) ≡ area a .occupied (suc n)
         go (yes p) = marks (suc n) (omega arith) (omega arith)
-        go (no p) = rw (le-ltb n (room b) (omega arith)) (sym (rw (eq-eqb (getD a (6 * n + 5) 0) 0 (getD-past a (6 * n + 5) (omega (arith, area-long))))))
+        go (no p) = rw (le-ltb n (room b) (omega arith)) (sym (rw (eq-eqb (getD a (width * n + 5) 0) 0 (getD-past a (width * n + 5) (omega (arith, area-long))))))
 
     heap-is : heap b ≡ withRoots a roots
     heap-is = λ i. record {
@@ -94,13 +99,14 @@ module _ (b a : List ℕ) (B : Shaped b) (ea : a ≡ nodesOf b) where
       right = λ n. word-is 3 n i;
       size = λ n. word-is 4 n i;
       count = λ n. word-is 5 n i;
+      sum = λ n. twoWords (word-is 6 n i) (word-is 7 n i);
     }
 
     refs-is : (n : ℕ) → refs (heap b) n ≡ refs (withRoots a roots) n
     refs-is n = ap (λ h. refs h n) heap-is
 
     -- the tally at the end
-    tallied : (s t : List ℕ) → LinkTally a s (length a / 6) → RootTally b s t 16 → (n : ℕ) → 1 ≤ n → getD t n 0 ≡ refs (heap b) n
+    tallied : (s t : List ℕ) → LinkTally a s (length a / width) → RootTally b s t 16 → (n : ℕ) → 1 ≤ n → getD t n 0 ≡ refs (heap b) n
     unfolding RootTally refs
     tallied s t S T n p = omega (arith, S .at n p, T n, refs-is n)
 
@@ -117,7 +123,8 @@ module _ (b a : List ℕ) (B : Shaped b) (ea : a ≡ nodesOf b) where
         lefts = λ n o. rw (← named-roots a roots (areaWord a 2 n)) (L .lefts n o);
         rights = λ n o. rw (← named-roots a roots (areaWord a 3 n)) (L .rights n o);
         sizes = λ n o. omega (arith, L .sizes n o, size-roots a roots (areaWord a 2 n), size-roots a roots (areaWord a 3 n));
-        blank = λ n p q z. let Z = L .blank n p q z in record { key = Z .key; value = Z .value; left = Z .left; right = Z .right; size = Z .size; count = Z .count };
+        sums = λ n o. omega (arith, L .sums n o, sum-roots a roots (areaWord a 2 n), sum-roots a roots (areaWord a 3 n));
+        blank = λ n p q z. let Z = L .blank n p q z in record { key = Z .key; value = Z .value; left = Z .left; right = Z .right; size = Z .size; count = Z .count; sum = Z .sum };
       }
 
       positive : (n : ℕ) → Occupied (area a) n → 1 ≤ areaWord a 5 n
@@ -164,7 +171,8 @@ module _ (b a : List ℕ) (B : Shaped b) (ea : a ≡ nodesOf b) where
         lefts = λ n o. rw (named-roots a roots (areaWord a 2 n)) (L .lefts n o);
         rights = λ n o. rw (named-roots a roots (areaWord a 3 n)) (L .rights n o);
         sizes = λ n o. omega (arith, L .sizes n o, size-roots a roots (areaWord a 2 n), size-roots a roots (areaWord a 3 n));
-        blank = λ n p q z. let Z = L .blank n p q z in record { key = Z .key; value = Z .value; left = Z .left; right = Z .right; size = Z .size; count = Z .count };
+        sums = λ n o. omega (arith, L .sums n o, sum-roots a roots (areaWord a 2 n), sum-roots a roots (areaWord a 3 n));
+        blank = λ n p q z. let Z = L .blank n p q z in record { key = Z .key; value = Z .value; left = Z .left; right = Z .right; size = Z .size; count = Z .count; sum = Z .sum };
       }
 
       counts : Each 0 (room b) (λ n. areaWord a 5 n ≡ refs (heap b) n)
@@ -175,7 +183,7 @@ module _ (b a : List ℕ) (B : Shaped b) (ea : a ≡ nodesOf b) where
           go false o = omega (arith, word-is 5 i, K .linked .blank i p q o .count, refs-unoccupied (heap b) i (K .linked) p o)
 
   -- the last test decides, once the area and the roots have passed
-  pub last-answer : (n : ℕ) (s t : List ℕ) (r : Bool) → n ≡ room b → AreaOk (area a) → RootsOk b a 16 → LinkTally a s (length a / 6) → RootTally b s t 16
+  pub last-answer : (n : ℕ) (s t : List ℕ) (r : Bool) → n ≡ room b → AreaOk (area a) → RootsOk b a 16 → LinkTally a s (length a / width) → RootTally b s t 16
       → Tells r (CountsOk b a t 0 n) → Tells r (SoundBlock b)
   last-answer n s t r e A R S T = tells-map r
       (λ C. let M : Each 0 (room b) (λ i. occupiedAt b i ≡ area a .occupied i) = λ i p q. C i p (omega arith) .mark in parts-sound (record { area-ok = A; marks = M; roots = R; counts = λ i p q. C i p (omega arith) .count ∙ tallied M s t S T i p }))

@@ -1,5 +1,6 @@
 // Checks of a block that is lent, of any words at all, and the fresh block.
 use area::words::wide;
+use model::WIDTH;
 ghost use mathlib.Core.Path.{_≡_};
 ghost use Rattle.model.specs.Block.{Shaped, SoundBlock};
 ghost use Rattle.model.specs.Tells.{Tells};
@@ -24,7 +25,7 @@ fn fits(words: usize, n: usize) -> bool
     if n % 32 != 0 {
         return false;
     }
-    words == 17 + n / 32 + 6 * n
+    words == 17 + n / 32 + WIDTH * n
 }
 
 // Whether length and N are right; a block of no words has no N.

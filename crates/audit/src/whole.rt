@@ -9,14 +9,14 @@ ghost use mathlib.Core.Bool.{true};
 ghost use Prim.Native.Nat.{_+_, _*_, _/_, _<_, _≤_};
 ghost use lib.ListN.{length};
 ghost use lib.Dec.{eqb};
-ghost use Rattle.model.specs.Block.{room, Shaped, SoundBlock};
+ghost use Rattle.model.specs.Block.{room, width, Shaped, SoundBlock};
 ghost use Rattle.model.specs.Tells.{Tells};
 ghost use Rattle.area.specs.Area.{AtMost};
 ghost use Rattle.audit.specs.Whole.{nodesOf, RootsOk, RootTally, CountOk, CountsOk};
 
 // Whether the roots are 0 or occupied nodes; if so, t counts them besides.
 fn roots_ok(b: &[u32], a: &[u32], n: usize, t: &mut [u32]) -> bool
-    requires { ⌜ Shaped (now b) × (n ≡ room (now b)) × (length (now a) ≡ 6 * n) × (length (now t) ≡ 4097) × AtMost (now t) 8192 ⌝ }
+    requires { ⌜ Shaped (now b) × (n ≡ room (now b)) × (length (now a) ≡ width * n) × (length (now t) ≡ 4097) × AtMost (now t) 8192 ⌝ }
     ensures { λ r. ⌜ Tells r (RootsOk (now (b .entry)) (now (a .entry)) 16) × (r ≡ true → RootTally (now (b .entry)) (now (t .entry)) (now (t .exit)) 16) ⌝ }
 {
     let mut v = 0;
@@ -33,7 +33,7 @@ fn roots_ok(b: &[u32], a: &[u32], n: usize, t: &mut [u32]) -> bool
 
 // Whether node i has the tally's count, and its occupancy bit m exactly when that is not 0.
 fn count_ok(a: &[u32], n: usize, t: &[u32], i: usize, m: usize) -> bool
-    requires { ⌜ (length (now a) ≡ 6 * n) × (1 ≤ i) × (i ≤ n) × (n < length (now t)) × (m < 2) ⌝ }
+    requires { ⌜ (length (now a) ≡ width * n) × (1 ≤ i) × (i ≤ n) × (n < length (now t)) × (m < 2) ⌝ }
     ensures { λ r. ⌜ Tells r (CountOk (now (a .entry)) (now (t .entry)) (eqb m 1) i) ⌝ }
 {
     let c = node_word(a, n, 5, i);
@@ -48,7 +48,7 @@ fn count_ok(a: &[u32], n: usize, t: &[u32], i: usize, m: usize) -> bool
 
 // The same of the 32 nodes of occupancy word w, whose bits come up one after another.
 fn word_ok(b: &[u32], a: &[u32], n: usize, t: &[u32], w: usize) -> bool
-    requires { ⌜ Shaped (now b) × (n ≡ room (now b)) × (length (now a) ≡ 6 * n) × (length (now t) ≡ 4097) × (w < n / 32) ⌝ }
+    requires { ⌜ Shaped (now b) × (n ≡ room (now b)) × (length (now a) ≡ width * n) × (length (now t) ≡ 4097) × (w < n / 32) ⌝ }
     ensures { λ r. ⌜ Tells r (CountsOk (now (b .entry)) (now (a .entry)) (now (t .entry)) (32 * w) (32 * w + 32)) ⌝ }
 {
     let mut m = wide(b[17 + w]);
@@ -65,7 +65,7 @@ fn word_ok(b: &[u32], a: &[u32], n: usize, t: &[u32], w: usize) -> bool
 
 // The same of each node.
 fn counts_ok(b: &[u32], a: &[u32], n: usize, t: &[u32]) -> bool
-    requires { ⌜ Shaped (now b) × (n ≡ room (now b)) × (length (now a) ≡ 6 * n) × (length (now t) ≡ 4097) ⌝ }
+    requires { ⌜ Shaped (now b) × (n ≡ room (now b)) × (length (now a) ≡ width * n) × (length (now t) ≡ 4097) ⌝ }
     ensures { λ r. ⌜ Tells r (CountsOk (now (b .entry)) (now (a .entry)) (now (t .entry)) 0 n) ⌝ }
 {
     let mut w = 0;

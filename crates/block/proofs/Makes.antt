@@ -7,8 +7,8 @@ use mathlib.Core.List.{List, [], _∷_}
 use lib.ListN.{drop}
 use native.Mathlib.Omega.{arith}
 use native.Mathlib.Decide.{ℕ-discrete}
-use Rattle.model.specs.Heap.{Heap, Occupied, Named, sizeAt, tree, hit, hits, refs, Linked, free, lowest}
-use Rattle.model.specs.Block.{word, room, nodeWord, occupiedAt, heap, Shaped}
+use Rattle.model.specs.Heap.{Heap, Occupied, Named, sizeAt, sumAt, tree, hit, hits, refs, Linked, free, lowest}
+use Rattle.model.specs.Block.{word, room, width, nodeWord, nodeAt, occupiedAt, heap, Shaped}
 use Rattle.model.specs.Supply.{make}
 use Rattle.model.specs.Moves.{Except, Made, Raised, Writing, Running}
 use Rattle.model.proofs.Counts.{hit-yes, hit-no}
@@ -61,10 +61,10 @@ pub record Making (b e : List ℕ) (n k v l r : ℕ) : Type 0 where
   pub lowest : Lowest b n
   pub left : Named (heap b) l
   pub right : Named (heap b) r
-  pub wrote : Writing b e n true (fields k v l r (sizeAt (heap b) l + sizeAt (heap b) r + 1)) 6
+  pub wrote : Writing b e n true (fields k v l r (sizeAt (heap b) l + sizeAt (heap b) r + 1) (v + sumAt (heap b) l + sumAt (heap b) r)) width
 
 module _ {b e : List ℕ} {n k v l r : ℕ} (M : Making b e n k v l r) where
-  W : Writing b e n true (fields k v l r (sizeAt (heap b) l + sizeAt (heap b) r + 1)) 6
+  W : Writing b e n true (fields k v l r (sizeAt (heap b) l + sizeAt (heap b) r + 1) (v + sumAt (heap b) l + sumAt (heap b) r)) width
   W = M .wrote
 
   occupied-other : (m : ℕ) → Occupied (heap b) m → m ≢ n
@@ -111,11 +111,13 @@ module _ {b e : List ℕ} {n k v l r : ℕ} (M : Making b e n k v l r) where
           left = λ m ne. C .1 .same .left m ∙ A .1 .same .left m ∙ E .left m ne;
           right = λ m ne. C .1 .same .right m ∙ A .1 .same .right m ∙ E .right m ne;
           size = λ m ne. C .1 .same .size m ∙ A .1 .same .size m ∙ E .size m ne;
+          sum = λ m ne. C .1 .same .sum m ∙ A .1 .same .sum m ∙ E .sum m ne;
         };
         occupied = C .1 .same .occupied n ∙ A .1 .same .occupied n ∙ W .bit;
         left = C .1 .same .left n ∙ A .1 .same .left n ∙ W .here 2 (omega arith);
         right = C .1 .same .right n ∙ A .1 .same .right n ∙ W .here 3 (omega arith);
         size = C .1 .same .size n ∙ A .1 .same .size n ∙ W .here 4 (omega arith) ∙ omega arith;
+        sum = C .1 .same .sum n ∙ A .1 .same .sum n ∙ omega (arith, W .here 6 (omega arith), W .here 7 (omega arith), C .1 .same .value n, A .1 .same .value n, W .here 1 (omega arith));
         count = omega (arith, raised n (M .lowest .node .low), W .here 5 (omega arith), hit-no l n (named-other l (M .left)), hit-no r n (named-other r (M .right)));
         counts = λ m o. omega (arith, raised m (M .running .linked .within m o .0), W .words 5 m (omega arith) (occupied-other m o));
         blanks = blanks;
@@ -139,7 +141,7 @@ module _ {b e : List ℕ} {n k v l r : ℕ} (M : Making b e n k v l r) where
           record { named = named-occupied (heap g) n (made .occupied); came = came-made (M .running) (C .0) (M .lowest .first) (M .left) (M .right) made key value }
 
 -- a node's words as code reads them
-pub node-is : (b : List ℕ) (n : ℕ) → 1 ≤ n → _≡_ {A = Node} (record { key = word b (11 + room b / 32 + 6 * n); value = word b (11 + room b / 32 + 6 * n + 1); left = word b (11 + room b / 32 + 6 * n + 2); right = word b (11 + room b / 32 + 6 * n + 3) }) (nodeOf (heap b) n)
+pub node-is : (b : List ℕ) (n : ℕ) → 1 ≤ n → _≡_ {A = Node} (record { key = word b (nodeAt b n); value = word b (nodeAt b n + 1); left = word b (nodeAt b n + 2); right = word b (nodeAt b n + 3) }) (nodeOf (heap b) n)
 node-is b zero p = absurd (omega arith)
 node-is b (suc n) p = same _ _ _ _ _ _ _ _ (ap (word b) (omega arith)) (ap (word b) (omega arith)) (ap (word b) (omega arith)) (ap (word b) (omega arith))
   where

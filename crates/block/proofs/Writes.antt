@@ -1,4 +1,4 @@
--- A node's bit set or cleared, and its six words written one after another: nothing else of the block changes.
+-- A node's bit set or cleared, and its words written one after another: nothing else of the block changes.
 use mathlib.Core.Path.{_≡_, refl, ap, sym, _∙_}
 use mathlib.Core.Logic.{_≢_}
 use Prim.Native.Nat.{ℕ, zero, suc, _+_, _-_, _*_, _/_, _%_, _^_, _≤_, _<_}
@@ -11,7 +11,7 @@ use borrow.Author.Tests.{ltb-true, lt-ltb, eqb-true, eqb-false}
 use native.Mathlib.Omega.{arith}
 use native.Mathlib.Decide.{ℕ-discrete}
 use Rattle.model.specs.Heap.{Occupied}
-use Rattle.model.specs.Block.{word, room, nodeWord, bit, occupiedAt, heap, Shaped}
+use Rattle.model.specs.Block.{word, room, width, nodeWord, nodeAt, bit, occupiedAt, heap, Shaped}
 use Rattle.model.specs.Moves.{Except, Emptied, Writing}
 use Rattle.model.proofs.Words.{spot, room-set, root-set, occupied-set, node-set-same, node-set-other, node-set-word, shaped-set}
 use Rattle.model.proofs.Bits.{bit-set-same, bit-set-other, bit-clear-same, bit-clear-other}
@@ -55,9 +55,9 @@ module _ (b : List ℕ) (B : Shaped b) (n y : ℕ) (taken : Bool) (lt : n < room
       go (yes e) = rw (e, word-marked) (others (m % 32) (omega arith))
       go (no e) = rw (getD-set-other b (17 + n / 32) (17 + m / 32) y 0 (omega arith))
 
-  words-marked : (i m : ℕ) → i < 6 → m ≢ suc n → nodeWord marked i m ≡ nodeWord b i m
+  words-marked : (i m : ℕ) → i < width → m ≢ suc n → nodeWord marked i m ≡ nodeWord b i m
   words-marked i zero l ne = refl
-  words-marked i (suc m) l ne = rw room-marked (getD-set-other b (17 + n / 32) (17 + room b / 32 + 6 * m + i) y 0 (omega (arith, B .whole)))
+  words-marked i (suc m) l ne = rw room-marked (getD-set-other b (17 + n / 32) (17 + room b / 32 + width * m + i) y 0 (omega (arith, B .whole)))
 
   bit-marked : Writing b marked (suc n) taken xs 0
   bit-marked = record {
@@ -105,60 +105,64 @@ freed {b} (suc n) xs B o q =
     let one = bit-one b n o in
     rw (q, e) (bit-marked b B n (x - 2 ^ (n % 32)) false (one .0) (rw (bit-clear-same (n % 32) x (one .1))) (λ i ne. bit-clear-other (n % 32) i x (one .1) ne) xs)
 
--- The six words
+-- The words
 
-abbrev pub fields : ℕ → ℕ → ℕ → ℕ → ℕ → ℕ → ℕ
-fields k v l r s zero = k
-fields k v l r s (suc zero) = v
-fields k v l r s (suc (suc zero)) = l
-fields k v l r s (suc (suc (suc zero))) = r
-fields k v l r s (suc (suc (suc (suc zero)))) = s
-fields k v l r s (suc (suc (suc (suc (suc j))))) = 0
+abbrev pub fields : (k v l r s t : ℕ) → ℕ → ℕ
+fields k v l r s t zero = k
+fields k v l r s t (suc zero) = v
+fields k v l r s t (suc (suc zero)) = l
+fields k v l r s t (suc (suc (suc zero))) = r
+fields k v l r s t (suc (suc (suc (suc zero)))) = s
+fields k v l r s t (suc (suc (suc (suc (suc zero))))) = 0
+fields k v l r s t (suc (suc (suc (suc (suc (suc zero)))))) = t % 4294967296
+fields k v l r s t (suc (suc (suc (suc (suc (suc (suc j))))))) = t / 4294967296
 
 -- one more word
-step : {b e : List ℕ} (n : ℕ) {j : ℕ} {taken : Bool} {xs : ℕ → ℕ} (x p : ℕ) → Writing b e n taken xs j → j < 6 → p ≡ 11 + room e / 32 + 6 * n + j → x ≡ xs j → Writing b (set e p x) n taken xs (suc j)
-step zero x p W six at is = absurd (omega (arith, W .low))
-step {b} {e} (suc n) {j} {taken} {xs} x p W six at is =
+step : {b e : List ℕ} (n : ℕ) {j : ℕ} {taken : Bool} {xs : ℕ → ℕ} (x p : ℕ) → Writing b e n taken xs j → j < width → p ≡ nodeAt e n + j → x ≡ xs j → Writing b (set e p x) n taken xs (suc j)
+step zero x p W in-node at is = absurd (omega (arith, W .low))
+step {b} {e} (suc n) {j} {taken} {xs} x p W in-node at is =
     let q : p ≡ spot e n j = omega arith in
     rw q (record {
-      shaped = shaped-set e (W .shaped) n j x (W .high) six;
+      shaped = shaped-set e (W .shaped) n j x (W .high) in-node;
       low = W .low;
-      high = rw (room-set e (W .shaped) n j x (W .high) six) (W .high);
-      room-kept = room-set e (W .shaped) n j x (W .high) six ∙ W .room-kept;
-      root = λ v l. root-set e (W .shaped) n j x (W .high) six v l ∙ W .root v l;
-      occupied = λ m ne. occupied-set e (W .shaped) n j x (W .high) six m ∙ W .occupied m ne;
-      bit = occupied-set e (W .shaped) n j x (W .high) six (suc n) ∙ W .bit;
-      words = λ i m l ne. node-set-other e (W .shaped) n j x (W .high) six i m l ne ∙ W .words i m l ne;
+      high = rw (room-set e (W .shaped) n j x (W .high) in-node) (W .high);
+      room-kept = room-set e (W .shaped) n j x (W .high) in-node ∙ W .room-kept;
+      root = λ v l. root-set e (W .shaped) n j x (W .high) in-node v l ∙ W .root v l;
+      occupied = λ m ne. occupied-set e (W .shaped) n j x (W .high) in-node m ∙ W .occupied m ne;
+      bit = occupied-set e (W .shaped) n j x (W .high) in-node (suc n) ∙ W .bit;
+      words = λ i m l ne. node-set-other e (W .shaped) n j x (W .high) in-node i m l ne ∙ W .words i m l ne;
       here = λ i l. go i l (ℕ-discrete i j);
     })
   where
     go : (i : ℕ) → i < suc j → Dec (i ≡ j) → nodeWord (set e (spot e n j) x) i (suc n) ≡ xs i
-    go i l (yes d) = rw d (node-set-same e (W .shaped) n j x (W .high) six ∙ is)
-    go i l (no d) = node-set-word e (W .shaped) n j x (W .high) six i (suc n) (omega arith) d ∙ W .here i (omega arith)
+    go i l (yes d) = rw d (node-set-same e (W .shaped) n j x (W .high) in-node ∙ is)
+    go i l (no d) = node-set-word e (W .shaped) n j x (W .high) in-node i (suc n) (omega arith) d ∙ W .here i (omega arith)
 
-pub wrote : {b e f : List ℕ} (n : ℕ) {taken : Bool} (k v l r s : ℕ) → Writing b e n taken (fields k v l r s) 0 → f ≡ written e (11 + room e / 32 + 6 * n) k v l r s → Writing b f n taken (fields k v l r s) 6
+pub wrote : {b e f : List ℕ} (n : ℕ) {taken : Bool} (k v l r s t : ℕ) → Writing b e n taken (fields k v l r s t) 0 → f ≡ written e (nodeAt e n) k v l r s t → Writing b f n taken (fields k v l r s t) width
 unfolding written
-wrote {b} {e} n k v l r s W0 q =
-    let p = 11 + room e / 32 + 6 * n in
+wrote {b} {e} n k v l r s t W0 q =
+    let p = nodeAt e n in
     let W1 = step n k p W0 (omega arith) (omega arith) refl in
     let W2 = step n v (p + 1) W1 (omega arith) (omega (arith, W0 .room-kept, W1 .room-kept)) refl in
     let W3 = step n l (p + 2) W2 (omega arith) (omega (arith, W0 .room-kept, W2 .room-kept)) refl in
     let W4 = step n r (p + 3) W3 (omega arith) (omega (arith, W0 .room-kept, W3 .room-kept)) refl in
     let W5 = step n s (p + 4) W4 (omega arith) (omega (arith, W0 .room-kept, W4 .room-kept)) refl in
-    rw q (step n 0 (p + 5) W5 (omega arith) (omega (arith, W0 .room-kept, W5 .room-kept)) refl)
+    let W6 = step n 0 (p + 5) W5 (omega arith) (omega (arith, W0 .room-kept, W5 .room-kept)) refl in
+    let W7 = step n (t % 4294967296) (p + 6) W6 (omega arith) (omega (arith, W0 .room-kept, W6 .room-kept)) refl in
+    rw q (step n (t / 4294967296) (p + 7) W7 (omega arith) (omega (arith, W0 .room-kept, W7 .room-kept)) refl)
 
 pub writing-except : {b e : List ℕ} {n j : ℕ} {taken : Bool} {xs : ℕ → ℕ} → Writing b e n taken xs j → Except (heap b) (heap e) n
-writing-except {b} {e} {n} W = record { room = W .room-kept; root = W .root; occupied = W .occupied; key = words 0 (omega arith); value = words 1 (omega arith); left = words 2 (omega arith); right = words 3 (omega arith); size = words 4 (omega arith) }
+writing-except {b} {e} {n} W = record { room = W .room-kept; root = W .root; occupied = W .occupied; key = words 0 (omega arith); value = words 1 (omega arith); left = words 2 (omega arith); right = words 3 (omega arith); size = words 4 (omega arith); sum = λ m ne. omega (arith, words 6 (omega arith) m ne, words 7 (omega arith) m ne) }
   where
-    words : (i : ℕ) → i < 6 → (m : ℕ) → m ≢ n → nodeWord e i m ≡ nodeWord b i m
+    words : (i : ℕ) → i < width → (m : ℕ) → m ≢ n → nodeWord e i m ≡ nodeWord b i m
     words i l m ne = W .words i m l ne
 
 -- all of them zero
-pub emptied : {b e : List ℕ} {n : ℕ} → Writing b e n false (fields 0 0 0 0 0) 6 → Occupied (heap b) n → Emptied (heap b) (heap e) n
+pub emptied : {b e : List ℕ} {n : ℕ} → Writing b e n false (fields 0 0 0 0 0 0) width → Occupied (heap b) n → Emptied (heap b) (heap e) n
 emptied W o = record {
   was = o;
   except = writing-except W;
   free = W .bit;
-  blank = record { key = W .here 0 (omega arith); value = W .here 1 (omega arith); left = W .here 2 (omega arith); right = W .here 3 (omega arith); size = W .here 4 (omega arith); count = W .here 5 (omega arith) };
+  blank = record { key = W .here 0 (omega arith); value = W .here 1 (omega arith); left = W .here 2 (omega arith); right = W .here 3 (omega arith); size = W .here 4 (omega arith); count = W .here 5 (omega arith); sum = omega (arith, W .here 6 (omega arith), W .here 7 (omega arith)) };
   counts = λ m ne. W .words 5 m (omega arith) ne;
 }

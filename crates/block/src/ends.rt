@@ -21,13 +21,13 @@ pub fn lower(b: &mut [u32], n: u32) -> u32
     c
 }
 
-// Node n becomes unoccupied and six zeros.
+// Node n becomes unoccupied and zeros.
 pub fn clear(b: &mut [u32], n: u32)
     requires { ⌜ Shaped (now b) × Occupied (heap (now b)) n ⌝ }
     ensures { λ r. ⌜ Shaped (now (b .exit)) × Emptied (heap (now (b .entry))) (heap (now (b .exit))) n ⌝ }
 {
     free_bit(b, n);
-    write(b, n, 0, 0, 0, 0, 0);
+    write(b, n, 0, 0, 0, 0, 0, 0);
 }
 
 // One reference to n is given up; with the last one the node goes.

@@ -3,16 +3,17 @@ pub mod apart;
 pub mod ends;
 mod words;
 
+use words::node_at;
 use words::set_word;
 use words::take_bit;
 use words::write;
 ghost use mathlib.Core.Path.{_≡_};
 ghost use mathlib.Core.Bool.{true};
 ghost use Prim.Native.Nat.{ℕ, suc, _+_, _-_, _*_, _/_, _<_, _≤_};
-ghost use Rattle.model.specs.Heap.{Named, sizeAt, tree, Linked, freeFrom, lowest};
+ghost use Rattle.model.specs.Heap.{Named, sizeAt, sumAt, tree, Linked, freeFrom, lowest};
 ghost use mathlib.Core.List.{[], _∷_};
 ghost use Rattle.model.specs.Moves.{Raised, Holding, FullBelow};
-ghost use Rattle.model.specs.Block.{heap, room, nodeWord, occupiedAt, Shaped};
+ghost use Rattle.model.specs.Block.{heap, room, width, nodeWord, occupiedAt, Shaped};
 ghost use Rattle.model.specs.Supply.{make};
 ghost use Rattle.block.specs.Words.{FullWords};
 ghost use Rattle.block.specs.Outcome.{Outcome, nodeOf};
@@ -48,10 +49,10 @@ pub fn root(b: &[u32], v: u32) -> u32
 
 // Word j of node n.
 pub fn node_word(b: &[u32], j: usize, n: u32) -> u32
-    requires { ⌜ Shaped (now b) × (1 ≤ n) × (n ≤ room (now b)) × (j < 6) ⌝ }
+    requires { ⌜ Shaped (now b) × (1 ≤ n) × (n ≤ room (now b)) × (j < width) ⌝ }
     ensures { λ r. ⌜ r ≡ nodeWord (now (b .entry)) j n ⌝ }
 {
-    let at = (11 + b[0] / 32 + 6 * n) as usize + j;
+    let at = node_at(b, n) + j;
     b[at]
 }
 
@@ -60,7 +61,7 @@ pub fn read(b: &[u32], n: u32) -> Node
     requires { ⌜ Shaped (now b) × (1 ≤ n) × (n ≤ room (now b)) ⌝ }
     ensures { λ r. ⌜ r ≡ nodeOf (heap (now (b .entry))) n ⌝ }
 {
-    let k = (11 + b[0] / 32 + 6 * n) as usize;
+    let k = node_at(b, n);
     Node {
         key: b[k],
         value: b[k + 1],
@@ -77,6 +78,25 @@ pub fn size_at(b: &[u32], n: u32) -> u32
     if n == 0 { 0 } else { node_word(b, 4, n) }
 }
 
+// A word among sums.
+pub fn long(x: u32) -> u64
+    ensures { λ r. ⌜ (r ≡ x) × (r < 4294967296) ⌝ }
+{
+    x as u64
+}
+
+// The sum of the values below n, of its two words.
+pub fn sum_at(b: &[u32], n: u32) -> u64
+    requires { ⌜ Shaped (now b) × Linked (heap (now b)) × Named (heap (now b)) n ⌝ }
+    ensures { λ r. ⌜ (r ≡ sumAt (heap (now (b .entry))) n) × (r ≤ 4294967295 * sizeAt (heap (now (b .entry))) n) ⌝ }
+{
+    if n == 0 {
+        return 0;
+    }
+    let k = node_at(b, n);
+    long(b[k + 6]) + 4294967296 * long(b[k + 7])
+}
+
 // One more reference to n.
 pub fn raise(b: &mut [u32], n: u32)
     requires { ⌜ Shaped (now b) × (n ≤ room (now b)) × (nodeWord (now b) 5 n < 4294967295) ⌝ }
@@ -88,21 +108,15 @@ pub fn raise(b: &mut [u32], n: u32)
     }
 }
 
-fn wide(x: u32) -> usize
-    ensures { λ r. ⌜ (r ≡ x) × (r < 4294967296) ⌝ }
-{
-    x as usize
-}
-
-// Whether the eight occupancy words from w on are all ones: only then is their sum as large as it can be.
+// Whether the eight occupancy words from w on are all ones: only then do they have all bits in common.
 fn eight_full(b: &[u32], w: u32) -> bool
     requires { ⌜ Shaped (now b) × (w + 8 ≤ room (now b) / 32) ⌝ }
     ensures { λ r. ⌜ (r ≡ true → FullWords (now (b .entry)) w 8) ⌝ }
 {
     let k = (17 + w) as usize;
-    let s = wide(b[k]) + wide(b[k + 1]) + wide(b[k + 2]) + wide(b[k + 3]);
-    let t = wide(b[k + 4]) + wide(b[k + 5]) + wide(b[k + 6]) + wide(b[k + 7]);
-    s + t == 34359738360
+    let s = b[k] & b[k + 1] & b[k + 2] & b[k + 3];
+    let t = b[k + 4] & b[k + 5] & b[k + 6] & b[k + 7];
+    s & t == 4294967295
 }
 
 // Some of the first words that are all ones. Eight at a time: a large edit makes thousands of nodes, and each looks past those made before it.
@@ -158,8 +172,9 @@ pub fn make(b: &mut [u32], key: u32, value: u32, left: u32, right: u32) -> Made
         return Made::Full;
     }
     let size = size_at(b, left) + size_at(b, right) + 1;
+    let sum = long(value) + sum_at(b, left) + sum_at(b, right);
     take_bit(b, n);
-    write(b, n, key, value, left, right, size);
+    write(b, n, key, value, left, right, size, sum);
     raise(b, left);
     raise(b, right);
     Made::At(n)

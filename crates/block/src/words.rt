@@ -1,16 +1,25 @@
 // Words of the block, set one at a time.
+use model::WIDTH_U32;
 ghost use mathlib.Core.Path.{_≡_};
 ghost use Prim.Native.Nat.{ℕ, _+_, _-_, _*_, _/_, _%_, _^_, _<_, _≤_};
-ghost use lib.ListN.{set};
-ghost use Rattle.model.specs.Block.{room, word, bit, Shaped};
+ghost use lib.ListN.{length, set};
+ghost use Rattle.model.specs.Block.{room, width, nodeAt, word, bit, Shaped};
 ghost use Rattle.block.specs.Words.{written};
+
+// Where the words of node n begin.
+pub fn node_at(b: &[u32], n: u32) -> usize
+    requires { ⌜ Shaped (now b) × (1 ≤ n) × (n ≤ room (now b)) ⌝ }
+    ensures { λ r. ⌜ (r ≡ nodeAt (now (b .entry)) n) × (r + width ≤ length (now (b .entry))) ⌝ }
+{
+    (17 - WIDTH_U32 + b[0] / 32 + WIDTH_U32 * n) as usize
+}
 
 // Word j of node n becomes x.
 pub fn set_word(b: &mut [u32], j: usize, n: u32, x: u32)
-    requires { ⌜ Shaped (now b) × (1 ≤ n) × (n ≤ room (now b)) × (j < 6) ⌝ }
-    ensures { λ r. ⌜ now (b .exit) ≡ set (now (b .entry)) (11 + room (now (b .entry)) / 32 + 6 * n + j) x ⌝ }
+    requires { ⌜ Shaped (now b) × (1 ≤ n) × (n ≤ room (now b)) × (j < width) ⌝ }
+    ensures { λ r. ⌜ now (b .exit) ≡ set (now (b .entry)) (nodeAt (now (b .entry)) n + j) x ⌝ }
 {
-    let at = (11 + b[0] / 32 + 6 * n) as usize + j;
+    let at = node_at(b, n) + j;
     b[at] = x;
 }
 
@@ -36,16 +45,27 @@ pub fn free_bit(b: &mut [u32], n: u32)
     b[w] = x - (1 << (i % 32));
 }
 
-// The six words of node n; its count is 0, since nothing names it.
-pub fn write(b: &mut [u32], n: u32, key: u32, value: u32, left: u32, right: u32, size: u32)
+// The words of node n; its count is 0, since nothing names it.
+pub fn write(
+    b: &mut [u32],
+    n: u32,
+    key: u32,
+    value: u32,
+    left: u32,
+    right: u32,
+    size: u32,
+    sum: u64,
+)
     requires { ⌜ Shaped (now b) × (1 ≤ n) × (n ≤ room (now b)) ⌝ }
-    ensures { λ r. ⌜ now (b .exit) ≡ written (now (b .entry)) (11 + room (now (b .entry)) / 32 + 6 * n) key value left right size ⌝ }
+    ensures { λ r. ⌜ now (b .exit) ≡ written (now (b .entry)) (nodeAt (now (b .entry)) n) key value left right size sum ⌝ }
 {
-    let k = (11 + b[0] / 32 + 6 * n) as usize;
+    let k = node_at(b, n);
     b[k] = key;
     b[k + 1] = value;
     b[k + 2] = left;
     b[k + 3] = right;
     b[k + 4] = size;
     b[k + 5] = 0;
+    b[k + 6] = (sum % 4294967296) as u32;
+    b[k + 7] = (sum / 4294967296) as u32;
 }

@@ -2,10 +2,13 @@
 use link::parse;
 use lists::entries::list;
 use table::Answer;
+use table::Minutes;
 use table::clear;
 use table::copy;
 use table::difference;
 use table::fresh;
+use table::held;
+use table::held_between;
 use table::insert;
 use table::lookup;
 use table::remove;
@@ -40,7 +43,7 @@ fn fill(b: &mut [u32], version: u32, n: u32) {
 
 // Beside two trees of 12, one of 1 and the chain 1, 2, 3, four of 32 nodes are free. The insert of 4 makes five, and takes one of them apart before it makes the last two.
 fn exact_room() {
-    let mut b = [0u32; 210];
+    let mut b = [0u32; 274];
     fresh(&mut b, 32);
     fill(&mut b, 1, 12);
     fill(&mut b, 2, 12);
@@ -89,7 +92,7 @@ fn calls(b: &mut [u32], v: u32, w: u32, x: u32, key: u32) {
 }
 
 fn name_version(v: u32) {
-    let mut b = [0u32; 210];
+    let mut b = [0u32; 274];
     fresh(&mut b, 32);
     calls(&mut b, v, 0, 0, 1);
     text(b", second:");
@@ -108,16 +111,16 @@ fn known_versions() {
 }
 
 fn largest() {
-    let mut b = [0u32; 24721];
+    let mut b = [0u32; 32913];
     show(b"case 11: N 4096", fresh(&mut b, 4096));
-    let mut c = [0u32; 24914];
+    let mut c = [0u32; 33170];
     show(b", N 4128", fresh(&mut c, 4128));
     text(b"\n");
 }
 
 // A version number is looked at before a rule number.
 fn known_rules() {
-    let mut b = [0u32; 210];
+    let mut b = [0u32; 274];
     fresh(&mut b, 32);
     show(b"rules: union by 4", union(&mut b, 0, 0, 0, 4));
     show(b", by 5", union(&mut b, 0, 0, 0, 5));
@@ -133,16 +136,17 @@ fn put(b: &mut [u32], at: usize, x: u32) {
     }
 }
 
-// Node i + 1 of a right chain of the keys 1 to n.
+// Node i + 1 of a right chain of the keys 1 to n, one minute each.
 fn right_link(b: &mut [u32], i: u32, n: u32)
     requires { ⌜ (i < n) × (n ≤ 4096) ⌝ }
 {
-    let at = (145 + 6 * i) as usize;
+    let at = (145 + 8 * i) as usize;
     put(b, at, i + 1);
-    put(b, at + 1, i + 1);
+    put(b, at + 1, 1);
     put(b, at + 3, if i + 1 < n { i + 2 } else { 0 });
     put(b, at + 4, n - i);
     put(b, at + 5, 1);
+    put(b, at + 6, n - i);
 }
 
 // Version 0 of N = 4,096 becomes that chain, by hand; n is a multiple of 32.
@@ -161,7 +165,7 @@ fn chain(b: &mut [u32], n: u32)
 
 // No node is free in a chain of 4,096, so only what makes nothing succeeds; the key is the deepest.
 fn full_chain() {
-    let mut b = [0u32; 24721];
+    let mut b = [0u32; 32913];
     chain(&mut b, 4096);
     text(b"chain of 4096 into version 1:");
     calls(&mut b, 1, 0, 0, 4096);
@@ -172,7 +176,7 @@ fn full_chain() {
 
 // The insert of an equal last key makes a node for each of a chain's: 2,047 are free, then 2,048.
 fn half_chain() {
-    let mut b = [0u32; 24721];
+    let mut b = [0u32; 32913];
     chain(&mut b, 2048);
     insert(&mut b, 1, 1, 1, 1);
     show(
@@ -184,23 +188,24 @@ fn half_chain() {
     text(b"\n");
 }
 
-// Node i + 1 of a left chain of the keys n down to 1, at N = 96.
+// Node i + 1 of a left chain of the keys n down to 1, one minute each, at N = 96.
 fn left_link(b: &mut [u32], i: u32, n: u32)
     requires { ⌜ (i < n) × (n ≤ 96) ⌝ }
 {
-    let at = (20 + 6 * i) as usize;
+    let at = (20 + 8 * i) as usize;
     put(b, at, n - i);
-    put(b, at + 1, n - i);
+    put(b, at + 1, 1);
     put(b, at + 2, if i + 1 < n { i + 2 } else { 0 });
     put(b, at + 4, n - i);
     put(b, at + 5, 1);
+    put(b, at + 6, n - i);
 }
 
 // Version 0 of N = 96 becomes a left chain of 64 and `more` nodes, by hand, and is listed against empty.
 fn left_chain(more: u32)
     requires { ⌜ more ≤ 1 ⌝ }
 {
-    let mut b = [0u32; 596];
+    let mut b = [0u32; 788];
     let mut out = [0u32; 4];
     fresh(&mut b, 96);
     put(&mut b, 1, 1);
@@ -227,6 +232,47 @@ fn deepest() {
     text(b"\n");
 }
 
+// What was asked, the number that the call gave back and the minutes.
+fn minutes(s: &[u8], m: Minutes) {
+    text(s);
+    text(b" ");
+    io::print_decimal(1, m.number as u64);
+    text(b":");
+    io::print_decimal(1, m.minutes);
+}
+
+fn chain_asked(b: &[u32]) {
+    minutes(b"held: chain of 4096", held(b, 0));
+    minutes(b", 10 to 20", held_between(b, 0, 10, 20));
+    minutes(b", 20 to 10", held_between(b, 0, 20, 10));
+    minutes(b", 4096 on", held_between(b, 0, 4096, 4294967295));
+    minutes(b", of version 15", held(b, 15));
+    minutes(b", of version 16", held(b, 16));
+    text(b"\n");
+}
+
+// Each entry of a chain holds one minute.
+fn chain_sums() {
+    let mut b = [0u32; 32913];
+    chain(&mut b, 4096);
+    chain_asked(&b);
+}
+
+// Two values that together pass a word. Then the high word of the root's sum is changed: node 1 is the root, and its words begin at 18.
+fn long_sums() {
+    let mut b = [0u32; 274];
+    fresh(&mut b, 32);
+    insert(&mut b, 0, 0, 0, 4294967295);
+    insert(&mut b, 1, 0, 4294967295, 4294967295);
+    minutes(b"held: twice the largest value", held(&b, 1));
+    minutes(b", the first", held_between(&b, 1, 0, 0));
+    minutes(b", the last", held_between(&b, 1, 4294967295, 4294967295));
+    minutes(b", between", held_between(&b, 1, 1, 4294967294));
+    put(&mut b, 25, 1);
+    minutes(b", damaged", held(&b, 1));
+    text(b"\n");
+}
+
 fn said(line: &[u8]) {
     let a = parse(line);
     text(b" ");
@@ -250,4 +296,6 @@ fn main() {
     known_rules();
     full_chain();
     half_chain();
+    chain_sums();
+    long_sums();
 }

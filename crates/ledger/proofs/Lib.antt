@@ -5,5 +5,6 @@ pub mod Minutes
 pub mod Refusals
 pub mod Once
 pub mod Standby
+pub mod Ranges
 pub mod Tests
 pub mod Asking

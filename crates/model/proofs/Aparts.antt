@@ -22,7 +22,7 @@ unlinked-lowered L W = record { same = W .same; root = W .root; linked = lowered
 
 pub unlinked-none : {h : Heap} {n : ℕ} → Linked h → n ≡ 0 → Unlinked h h n
 unlinked-none {h} {n} L e = record {
-  same = record { room = refl; occupied = λ m. refl; key = λ m. refl; value = λ m. refl; left = λ m. refl; right = λ m. refl; size = λ m. refl };
+  same = record { room = refl; occupied = λ m. refl; key = λ m. refl; value = λ m. refl; left = λ m. refl; right = λ m. refl; size = λ m. refl; sum = λ m. refl };
   root = λ v lt. refl;
   linked = L;
   trees = λ m o. refl;
@@ -66,6 +66,7 @@ module _ {h k k2 : Heap} {n l r : ℕ} (E : Emptying h k n l r) (U : Unlinked k 
         left = λ m ne. W .same .left m ∙ U .same .left m ∙ E .emptied .except .left m ne;
         right = λ m ne. W .same .right m ∙ U .same .right m ∙ E .emptied .except .right m ne;
         size = λ m ne. W .same .size m ∙ U .same .size m ∙ E .emptied .except .size m ne;
+        sum = λ m ne. W .same .sum m ∙ U .same .sum m ∙ E .emptied .except .sum m ne;
       };
       free = W .same .occupied n ∙ U .same .occupied n ∙ E .emptied .free;
       left = W .same .left n ∙ U .same .left n ∙ E .emptied .blank .left;

@@ -9,7 +9,7 @@ use lib.Seq.{getD-set-same, getD-set-other}
 use native.Mathlib.Omega.{arith}
 use native.Mathlib.Decide.{ℕ-discrete}
 use Rattle.model.specs.Heap.{Heap, Occupied, Named, tree, version, hit, Linked, Counted, Kept}
-use Rattle.model.specs.Block.{room, nodeWord, occupiedAt, heap, Shaped}
+use Rattle.model.specs.Block.{room, width, nodeWord, occupiedAt, heap, Shaped}
 use Rattle.model.specs.Moves.{Rooted, Raised, Gave, Owed, Paid, Freed, Running, Holds, FullBelow, HeldBelow, Tidied, Swept, Finished}
 use Rattle.model.proofs.Counts.{hit-no}
 use Rattle.model.proofs.Giving.{same-linked, same-trees, same-refs, rooted-counted, gave-trans}
@@ -22,7 +22,7 @@ pub roots-set : (b e : List ℕ) (v n : ℕ) → Shaped b → v < 16 → e ≡ s
 roots-set b e v n B lt q = rw q (
   record { least = rw k (B .least); most = rw k (B .most); whole = rw k (B .whole); long = rw k (length-set b (1 + v) n ∙ B .long) },
   record {
-    same = record { room = k; occupied = occupied; key = words 0; value = words 1; left = words 2; right = words 3; size = words 4 };
+    same = record { room = k; occupied = occupied; key = words 0; value = words 1; left = words 2; right = words 3; size = words 4; sum = λ m. omega (arith, words 6 m, words 7 m) };
     there = lt;
     here = getD-set-same b (1 + v) n 0 (omega (arith, B .long));
     others = λ w l ne. getD-set-other b (1 + v) (1 + w) n 0 (omega arith);
@@ -39,7 +39,7 @@ roots-set b e v n B lt q = rw q (
 
     words : (j m : ℕ) → nodeWord (set b (1 + v) n) j m ≡ nodeWord b j m
     words j zero = refl
-    words j (suc m) = rw k (getD-set-other b (1 + v) (17 + room b / 32 + 6 * m + j) n 0 (omega arith))
+    words j (suc m) = rw k (getD-set-other b (1 + v) (17 + room b / 32 + width * m + j) n 0 (omega arith))
 
 -- Emptying what nothing names
 

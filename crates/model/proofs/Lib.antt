@@ -25,6 +25,7 @@ pub mod Counts
 pub mod Reach
 pub mod Bound
 pub mod Lookups
+pub mod Sums
 pub mod Words
 pub mod Bits
 pub mod Unique

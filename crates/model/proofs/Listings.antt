@@ -8,7 +8,7 @@ use lib.Dec.{eqb, leb}
 use borrow.Author.Tests.{eqb-true}
 use native.Mathlib.Omega.{arith}
 use Rattle.model.specs.Tree.{Tree, leaf, node, Entry, size, idOf, entries, cut, find, AllAbove, Sorted, Ordered}
-use Rattle.model.specs.Listing.{Item, tree, entry, Sides, Row, Turn, over, on, yield, pend, opened, turn, tooDeep, walk, start, turns, listing, Listed}
+use Rattle.model.specs.Listing.{Item, tree, entry, Sides, Row, Turn, over, on, yield, Walk, pend, opened, turn, tooDeep, walk, start, turns, listing, leftEntries, Listed}
 use Rattle.model.specs.Heap.{Heap, version, Linked, Sound}
 use Rattle.model.specs.Heap as H
 use Rattle.model.proofs.Versions.{version-ordered}
@@ -16,7 +16,7 @@ use Rattle.model.proofs.Cancel.{Stands, stands-left, stands-right, stan
 use Rattle.model.proofs.Compare.{cmp-lt, cmp-eq, cmp-gt}
 use Rattle.model.proofs.Finds.{above-none, past, found-first}
 use Rattle.model.proofs.Sorts.{allAbove-trans, ordered-sorted}
-use Rattle.model.proofs.Turns.{costs, turn-falls, Falls, costs-start}
+use Rattle.model.proofs.Turns.{cost, costs, turn-falls, Falls, costs-start}
 use Rattle.model.proofs.Rows.{found-above, nil-listed, swap-listed, yield-listed, skip-listed}
 
 -- the entries that a side has still to show
@@ -218,3 +218,36 @@ listing-listed a b O d =
 pub versions-listed : (h : Heap) → Sound h → (v w : ℕ) → v < 16 → w < 16 → listing (version h v) (version h w) .deep ≡ false
     → Listed (find (entries (version h v))) (find (entries (version h w))) (listing (version h v) (version h w) .rows)
 versions-listed h S v w p q = listing-listed (version h v) (version h w) (versions-one-heap h S v w p q)
+
+-- Against an empty side every entry is shown.
+
+abbrev alone : List Item → Sides
+alone ls = record { left = ls; right = [] }
+
+walk-alone : (f : ℕ) (ls : List Item) → costs (alone ls) ≤ f → walk f (alone ls) .deep ≡ false → leftEntries (walk f (alone ls) .rows) ≡ spread ls
+unfolding walk turn Falls spread leftEntries costs cost
+walk-alone zero ls c d = go ls c
+  where
+    go : (ls : List Item) → costs (alone ls) ≤ 0 → [] ≡ spread ls
+    go [] c = refl
+    go (tree t ∷ ls) c = absurd (omega (arith, turn-falls (tree t ∷ ls) []))
+    go (entry k v ∷ ls) c = absurd (omega arith)
+walk-alone (suc f) ls c d = go ls c d (walk-alone f)
+  where
+    go : (ls : List Item) → costs (alone ls) ≤ suc f → walk (suc f) (alone ls) .deep ≡ false
+        → ((ms : List Item) → costs (alone ms) ≤ f → walk f (alone ms) .deep ≡ false → leftEntries (walk f (alone ms) .rows) ≡ spread ms)
+        → leftEntries (walk (suc f) (alone ls) .rows) ≡ spread ls
+    go [] c d ih = refl
+    go (tree t ∷ ls) c d ih = by (tooDeep (alone (opened t ls))) refl
+      where
+        by : (b : Bool) → tooDeep (alone (opened t ls)) ≡ b → leftEntries (walk (suc f) (alone (tree t ∷ ls)) .rows) ≡ entries t ++ spread ls
+        by true z = absurd (true≢false (rw (z, walk) at d))
+        by false z =
+            let same : walk (suc f) (alone (tree t ∷ ls)) ≡ walk f (alone (opened t ls)) = rw (z, walk) refl in
+            ap (λ (w : Walk). leftEntries (w .rows)) same ∙ ih (opened t ls) (omega (arith, turn-falls (tree t ∷ ls) [])) (ap (λ (w : Walk). w .deep) (sym same) ∙ d) ∙ spread-opened t ls
+    go (entry k v ∷ ls) c d ih = ap (λ (es : List Entry). (k, v) ∷ es) (ih ls (omega arith) d)
+
+-- the listing of a version against an empty one is its entries
+pub listing-alone : (t : Tree) → listing t leaf .deep ≡ false → leftEntries (listing t leaf .rows) ≡ entries t
+unfolding listing spread
+listing-alone t d = walk-alone (turns t leaf) (pend t []) (costs-start t leaf) d ∙ spread-pend t [] ∙ append-nil (entries t)

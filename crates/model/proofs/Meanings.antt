@@ -10,16 +10,20 @@ use lib.Dec.{eqb, leb}
 use borrow.Author.Tests.{eq-eqb}
 use native.Mathlib.Omega.{arith}
 use native.Mathlib.Decide.{ℕ-discrete}
-use Rattle.model.specs.Tree.{entries, height, lookup, find, put, without, both, less, Is}
+use Rattle.model.specs.Tree.{leaf, entries, AllBelow, height, lookup, find, put, without, both, less, Is}
+use Rattle.model.specs.Sums.{minutes, those, within}
+use Rattle.model.specs.Listing.{Row, listing, leftEntries}
 use Rattle.model.specs.Supply.{short}
 use Rattle.model.specs.Rules.{difference, mergeBy, diffBy}
 use Rattle.model.specs.Heap.{version, free, supply}
 use Rattle.model.specs.Block.{heap, SoundBlock}
 use Rattle.model.specs.Numbers.{NO_ROOM}
-use Rattle.model.specs.Calls.{fails, passes, Answer, refusal, finding, Versions, Edited, Edit, Reads, Edits, Lookup, Size, inserting, removing, copying, clearing, uniting, lessening}
+use Rattle.model.specs.Calls.{fails, passes, Answer, refusal, finding, Versions, Edited, Edit, Reads, Edits, Lookup, Size, Held, HeldBetween, inserting, removing, copying, clearing, uniting, lessening}
 use Rattle.model.proofs.Entries.{lookup-entries, insert-entries}
 use Rattle.model.proofs.Edits.{size-length, remove-entries}
 use Rattle.model.proofs.Room.{insert-room, remove-room}
+use Rattle.model.proofs.Sums.{turned-none, whole-all}
+use Rattle.model.proofs.Listings.{listing-alone}
 use Rattle.model.proofs.Versions.{version-ordered, union-entries, difference-entries, cancelling-changes-nothing}
 
 -- a refusal's number is not 0
@@ -178,3 +182,33 @@ lookup-finds {b} v key L z = let D = reads-done (v ∷ []) L z in D .2 ∙ ap fi
 -- size is the number of entries
 pub size-counts : {b : List ℕ} {a : Answer} (v : ℕ) → Size b v a → a .number ≡ 0 → a .value ≡ length (entries (version (heap b) v))
 size-counts {b} v L z = ap (λ (x : Answer). x .value) (reads-done (v ∷ []) L z .2) ∙ size-length (version (heap b) v)
+
+-- held is the sum of the entries' values
+pub held-sums : {b : List ℕ} {a : Answer} (v : ℕ) → Held b v a → a .number ≡ 0 → a .value ≡ minutes (entries (version (heap b) v))
+held-sums v H z = ap (λ (x : Answer). x .value) (reads-done (v ∷ []) H z .2)
+
+-- held between is the sum over the entries from first to last
+pub between-sums : {b : List ℕ} {a : Answer} (v first last : ℕ) → HeldBetween b v first last a → a .number ≡ 0 → a .value ≡ minutes (those (within first last) (entries (version (heap b) v)))
+between-sums v first last H z = ap (λ (x : Answer). x .value) (reads-done (v ∷ []) H z .2)
+
+-- both are the sum over the full listing, against a version that is empty
+module _ (b : List ℕ) (v w : ℕ) (empty : version (heap b) w ≡ leaf) (whole : listing (version (heap b) v) (version (heap b) w) .deep ≡ false) where
+  abbrev Rows : List Row
+  Rows = listing (version (heap b) v) (version (heap b) w) .rows
+
+  listed : leftEntries Rows ≡ entries (version (heap b) v)
+  listed = ap (λ t. leftEntries (listing (version (heap b) v) t .rows)) empty ∙ listing-alone (version (heap b) v) (ap (λ t. listing (version (heap b) v) t .deep) (sym empty) ∙ whole)
+
+  pub held-listed : {a : Answer} → Held b v a → a .number ≡ 0 → a .value ≡ minutes (leftEntries Rows)
+  held-listed H z = held-sums v H z ∙ ap minutes (sym listed)
+
+  pub between-listed : {a : Answer} (first last : ℕ) → HeldBetween b v first last a → a .number ≡ 0 → a .value ≡ minutes (those (within first last) (leftEntries Rows))
+  between-listed first last H z = between-sums v first last H z ∙ ap (λ es. minutes (those (within first last) es)) (sym listed)
+
+-- a first key above the last sums to 0
+pub between-turned : {b : List ℕ} {a : Answer} (v first last : ℕ) → last < first → HeldBetween b v first last a → a .number ≡ 0 → a .value ≡ 0
+between-turned {b} v first last lt H z = between-sums v first last H z ∙ turned-none first last lt (entries (version (heap b) v))
+
+-- all keys are from 0 to any bound that they do not pass: the whole is held
+pub between-all : {b : List ℕ} {a : Answer} (v last : ℕ) → AllBelow (suc last) (entries (version (heap b) v)) → HeldBetween b v 0 last a → a .number ≡ 0 → a .value ≡ minutes (entries (version (heap b) v))
+between-all {b} v last below H z = between-sums v 0 last H z ∙ whole-all last (entries (version (heap b) v)) below

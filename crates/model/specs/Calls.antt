@@ -7,11 +7,12 @@ use mathlib.Core.Option.{Option, none, some}
 use mathlib.Core.List.{List, [], _∷_}
 use lib.ListN.{length, replicate}
 use lib.Dec.{eqb, leb}
-use Rattle.model.specs.Tree.{Tree, leaf, size, lookup}
+use Rattle.model.specs.Tree.{Tree, leaf, size, entries, lookup}
 use Rattle.model.specs.Supply.{Make, done, short}
 use Rattle.model.specs.Rules.{insert, remove, union, difference, mergeBy, diffBy}
 use Rattle.model.specs.Heap.{version, supply}
-use Rattle.model.specs.Block.{heap, room, Shaped, SoundBlock}
+use Rattle.model.specs.Block.{heap, room, width, Shaped, SoundBlock}
+use Rattle.model.specs.Sums.{minutes, those, within}
 use Rattle.model.specs.Numbers.{SHAPE, DAMAGED, VERSION, RULE, NO_ROOM}
 
 -- a check: where P fails the call is refused, else it goes on
@@ -93,16 +94,16 @@ Edits b after e a =
     (Check (short (e .rule (supply (heap b)) .1) ≡ false) ((a ≡ refusal NO_ROOM) × (after ≡ b))
     ((a ≡ e .answer) × Edited b after (e .dst) (e .rule (supply (heap b)) .0))))))
 
--- length and N are right for fresh: N is a multiple of 32 from 32 to 4,096, and the block has exactly 17 + N/32 + 6N words
+-- length and N are right for fresh: N is a multiple of 32 from 32 to 4,096, and the block has exactly 17 + N/32 + 8N words
 pub record Fitting (words n : ℕ) : Type 0 where
   pub least : 32 ≤ n
   pub most : n ≤ 4096
   pub whole : n % 32 ≡ 0
-  pub long : words ≡ 17 + n / 32 + 6 * n
+  pub long : words ≡ 17 + n / 32 + width * n
 
 -- N, and zeros elsewhere
 unfoldable pub freshBlock : ℕ → List ℕ
-freshBlock n = n ∷ replicate (16 + n / 32 + 6 * n) 0
+freshBlock n = n ∷ replicate (16 + n / 32 + width * n) 0
 
 -- The calls.
 
@@ -116,6 +117,14 @@ Lookup b v key a = Reads b (v ∷ []) (finding (lookup (version (heap b) v) key)
 -- the number of entries
 abbrev pub Size : (b : List ℕ) (v : ℕ) → Answer → Type 0
 Size b v a = Reads b (v ∷ []) (giving (size (version (heap b) v))) a
+
+-- the minutes that a version's entries hold together
+abbrev pub Held : (b : List ℕ) (v : ℕ) → Answer → Type 0
+Held b v a = Reads b (v ∷ []) (giving (minutes (entries (version (heap b) v)))) a
+
+-- the minutes of the entries with first ≤ key ≤ last
+abbrev pub HeldBetween : (b : List ℕ) (v first last : ℕ) → Answer → Type 0
+HeldBetween b v first last a = Reads b (v ∷ []) (giving (minutes (those (within first last) (entries (version (heap b) v))))) a
 
 -- insert answers the old value
 abbrev pub inserting : (b : List ℕ) (dst src key value : ℕ) → Edit

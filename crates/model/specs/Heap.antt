@@ -7,7 +7,7 @@ use lib.Dec.{eqb}
 use Rattle.model.specs.Tree.{Tree, leaf, node, Ordered}
 use Rattle.model.specs.Supply.{Supply, firstOf}
 
--- N, the roots, and six words and an occupancy bit for each node
+-- N, the roots, and the words and an occupancy bit for each node; its two words of the sum are one number
 pub record Heap : Type 0 where
   pub room : ℕ
   pub root : ℕ → ℕ
@@ -18,6 +18,7 @@ pub record Heap : Type 0 where
   pub right : ℕ → ℕ
   pub size : ℕ → ℕ
   pub count : ℕ → ℕ
+  pub sum : ℕ → ℕ
 
 -- an occupied node is one of 1 to room
 abbrev pub Occupied : Heap → ℕ → Type 0
@@ -32,6 +33,11 @@ Named h (suc n) = Occupied h (suc n)
 abbrev pub sizeAt : Heap → ℕ → ℕ
 sizeAt h zero = 0
 sizeAt h (suc n) = h .size (suc n)
+
+-- the sum that a link stands for
+abbrev pub sumAt : Heap → ℕ → ℕ
+sumAt h zero = 0
+sumAt h (suc n) = h .sum (suc n)
 
 -- the tree below n, no deeper than `fuel`
 unfoldable pub load : Heap → ℕ → ℕ → Tree
@@ -60,7 +66,7 @@ hits f n (suc k) = hit (f k) n + hits f n k
 unfoldable pub refs : Heap → ℕ → ℕ
 refs h n = hits (h .root) n 16 + (hits (λ i. h .left (suc i)) n (h .room) + hits (λ i. h .right (suc i)) n (h .room))
 
--- an unoccupied node is six zeros
+-- an unoccupied node is zeros
 pub record Blank (h : Heap) (n : ℕ) : Type 0 where
   pub key : h .key n ≡ 0
   pub value : h .value n ≡ 0
@@ -68,6 +74,7 @@ pub record Blank (h : Heap) (n : ℕ) : Type 0 where
   pub right : h .right n ≡ 0
   pub size : h .size n ≡ 0
   pub count : h .count n ≡ 0
+  pub sum : h .sum n ≡ 0
 
 -- what holds at every moment of a call
 pub record Linked (h : Heap) : Type 0 where
@@ -76,6 +83,7 @@ pub record Linked (h : Heap) : Type 0 where
   pub lefts : (n : ℕ) → Occupied h n → Named h (h .left n)
   pub rights : (n : ℕ) → Occupied h n → Named h (h .right n)
   pub sizes : (n : ℕ) → Occupied h n → h .size n ≡ suc (sizeAt h (h .left n) + sizeAt h (h .right n))
+  pub sums : (n : ℕ) → Occupied h n → h .sum n ≡ h .value n + (sumAt h (h .left n) + sumAt h (h .right n))
   pub blank : (n : ℕ) → 1 ≤ n → n ≤ h .room → h .occupied n ≡ false → Blank h n
 
 -- each count is the number of roots and links that name the node, and `extra` besides: references that are about to be given up

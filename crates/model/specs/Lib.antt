@@ -5,6 +5,7 @@ pub mod Listing
 pub mod Delta
 pub mod Heap
 pub mod Block
+pub mod Sums
 pub mod Numbers
 pub mod Tells
 pub mod Frame

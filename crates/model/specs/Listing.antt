@@ -7,7 +7,7 @@ use mathlib.Core.Option.{Option, none, some}
 use mathlib.Core.List.{List, [], _∷_}
 use lib.ListN.{length}
 use lib.Dec.{eqb, ltb, leb}
-use Rattle.model.specs.Tree.{Tree, leaf, node, size, idOf}
+use Rattle.model.specs.Tree.{Tree, leaf, node, Entry, size, idOf}
 
 -- what is pending on a side: a tree, or an entry whose left child has been shown
 pub data Item : Type 0 where
@@ -101,6 +101,11 @@ after zero s = s
 after (suc n) s = after n (nextSides s)
 
 -- What is said of a listing.
+
+-- the left entries of rows
+unfoldable pub leftEntries : List Row → List Entry
+leftEntries [] = []
+leftEntries (r ∷ rs) = (r .key, r .left) ∷ leftEntries rs
 
 -- x stands in the list
 infix 4 _∈_

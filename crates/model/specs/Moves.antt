@@ -6,8 +6,8 @@ use mathlib.Core.Bool.{Bool, true, false}
 use mathlib.Core.Option.{Option, none, some}
 use mathlib.Core.List.{List, [], _∷_}
 use Rattle.model.specs.Supply.{Supply, Make, apart, short}
-use Rattle.model.specs.Block.{heap, word, room, nodeWord, occupiedAt, Shaped}
-use Rattle.model.specs.Heap.{Heap, Occupied, Named, sizeAt, tree, version, hit, refs, Linked, Blank, Counted, Kept, free}
+use Rattle.model.specs.Block.{heap, word, room, width, nodeWord, occupiedAt, Shaped}
+use Rattle.model.specs.Heap.{Heap, Occupied, Named, sizeAt, sumAt, tree, version, hit, refs, Linked, Blank, Counted, Kept, free}
 
 -- One node, one root, one count.
 
@@ -21,6 +21,7 @@ pub record Except (h g : Heap) (n : ℕ) : Type 0 where
   pub left : (m : ℕ) → m ≢ n → g .left m ≡ h .left m
   pub right : (m : ℕ) → m ≢ n → g .right m ≡ h .right m
   pub size : (m : ℕ) → m ≢ n → g .size m ≡ h .size m
+  pub sum : (m : ℕ) → m ≢ n → g .sum m ≡ h .sum m
 
 -- node n was free and is a node over l and r now; nothing names it, and l and r have a reference more
 pub record Made (h g : Heap) (n l r : ℕ) : Type 0 where
@@ -32,11 +33,12 @@ pub record Made (h g : Heap) (n l r : ℕ) : Type 0 where
   pub left : g .left n ≡ l
   pub right : g .right n ≡ r
   pub size : g .size n ≡ suc (sizeAt h l + sizeAt h r)
+  pub sum : g .sum n ≡ g .value n + (sumAt h l + sumAt h r)
   pub count : g .count n ≡ 0
   pub counts : (m : ℕ) → Occupied h m → g .count m ≡ h .count m + (hit l m + hit r m)
   pub blanks : (m : ℕ) → h .occupied m ≡ false → m ≢ n → g .count m ≡ h .count m
 
--- node n was occupied and is unoccupied now, six zeros
+-- node n was occupied and is unoccupied now, zeros
 pub record Emptied (h g : Heap) (n : ℕ) : Type 0 where
   pub was : Occupied h n
   pub except : Except h g n
@@ -62,6 +64,7 @@ pub record Same (h g : Heap) : Type 0 where
   pub left : (m : ℕ) → g .left m ≡ h .left m
   pub right : (m : ℕ) → g .right m ≡ h .right m
   pub size : (m : ℕ) → g .size m ≡ h .size m
+  pub sum : (m : ℕ) → g .sum m ≡ h .sum m
 
 -- the root of version v is n now
 pub record Rooted (h g : Heap) (v n : ℕ) : Type 0 where
@@ -103,7 +106,7 @@ pub record Writing (b e : List ℕ) (n : ℕ) (taken : Bool) (xs : ℕ → ℕ) 
   pub root : (v : ℕ) → v < 16 → word e (1 + v) ≡ word b (1 + v)
   pub occupied : (m : ℕ) → m ≢ n → occupiedAt e m ≡ occupiedAt b m
   pub bit : occupiedAt e n ≡ taken
-  pub words : (i m : ℕ) → i < 6 → m ≢ n → nodeWord e i m ≡ nodeWord b i m
+  pub words : (i m : ℕ) → i < width → m ≢ n → nodeWord e i m ≡ nodeWord b i m
   pub here : (i : ℕ) → i < j → nodeWord e i n ≡ xs i
 
 -- Giving up.

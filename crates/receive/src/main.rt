@@ -173,8 +173,8 @@ fn print_missing(x: &[u32]) {
 }
 
 fn main() {
-    let mut b = [0u32; 12369];
-    table::fresh(&mut b, 2048);
+    let mut b = [0u32; 16208];
+    table::fresh(&mut b, 2016);
     let mut x = [0u32; 130];
     read_all(&mut b, &mut x);
     print_version(&b);

@@ -3,7 +3,7 @@
 // A call is six numbers: call, destination, left, right, key or rule, value or cancel, with 0 for what it does not have.
 // An answer is the call's name and: a value or a dash; a size; a listing's rows, key:left:right with a dash for no right;
 // and after an edit the destination's tree as the original has it, key:value:size, top first and left before right.
-// What agrees: answers, shapes and listings. Six versions of at most 48 keys have room at N = 2,048, so nothing is refused.
+// What agrees: answers, shapes and listings. Six versions of at most 48 keys have room at N = 2,016, so nothing is refused.
 mod calls;
 mod lines;
 mod trees;
@@ -35,8 +35,8 @@ fn replay(b: &mut [u32], text: &[u8]) {
 
 // A sample longer than the buffer would be cut, and the comparison would show it.
 fn main() {
-    let mut b = [0u32; 12369];
-    table::fresh(&mut b, 2048);
+    let mut b = [0u32; 16208];
+    table::fresh(&mut b, 2016);
     let mut input = io::large_buffer();
     let n = io::read_full(0, &mut input);
     replay(&mut b, &input[..n]);

@@ -26,11 +26,11 @@ pub fn word(w: &[u32], at: usize) -> u32 {
     0
 }
 
-// Word j of node n: in a block of N = 2,048 the words of node 1 start at 81.
+// Word j of node n: in a block of N = 2,016 the words of node 1 start at 80.
 fn node_word(b: &[u32], n: u32, j: usize) -> u32
-    requires { ⌜ j < 6 ⌝ }
+    requires { ⌜ j < 8 ⌝ }
 {
-    word(b, 75 + 6 * (n as usize) + j)
+    word(b, 72 + 8 * (n as usize) + j)
 }
 
 // Key, value and size.

@@ -1,5 +1,5 @@
 // What the switch's host calls: one call each, and nothing else. Each answers the number and sets its fields through the pointers.
-ghost use Rattle.model.specs.Calls.{Fresh, Lookup, Size, Edits, inserting, removing, copying, clearing, uniting, lessening, Checked};
+ghost use Rattle.model.specs.Calls.{Fresh, Lookup, Size, Held, HeldBetween, Edits, inserting, removing, copying, clearing, uniting, lessening, Checked};
 ghost use Rattle.model.specs.Frame.{parse};
 ghost use Rattle.model.specs.Lists.{Lists, listed, framed};
 ghost use Rattle.model.specs.Link.{Parse, Begin, Missing, Receive};
@@ -41,6 +41,32 @@ pub extern "C" fn ksk_size(block: &[u32], version: u32, size: &mut u32) -> u32
 {
     let a = table::size(block, version);
     *size = a.value;
+    a.number
+}
+
+// The minutes that a version holds.
+#[no_mangle]
+pub extern "C" fn ksk_held(block: &[u32], version: u32, minutes: &mut u64) -> u32
+    ensures { λ r. ⌜ Held (now (block .entry)) version (record { number = r; found = 0; value = now (minutes .exit) }) ⌝ }
+{
+    let a = table::held(block, version);
+    *minutes = a.minutes;
+    a.number
+}
+
+// The minutes that it holds from key first to key last, ends included.
+#[no_mangle]
+pub extern "C" fn ksk_held_between(
+    block: &[u32],
+    version: u32,
+    first: u32,
+    last: u32,
+    minutes: &mut u64,
+) -> u32
+    ensures { λ r. ⌜ HeldBetween (now (block .entry)) version first last (record { number = r; found = 0; value = now (minutes .exit) }) ⌝ }
+{
+    let a = table::held_between(block, version, first, last);
+    *minutes = a.minutes;
     a.number
 }
 

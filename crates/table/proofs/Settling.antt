@@ -6,15 +6,18 @@ use mathlib.Core.Bool.{Bool, true, false, not, true≢false}
 use mathlib.Core.Option.{Option}
 use mathlib.Core.List.{List, [], _∷_}
 use native.Mathlib.Omega.{arith}
-use Rattle.model.specs.Tree.{size, lookup, Ordered}
-use Rattle.model.specs.Heap.{Named, Linked, sizeAt, tree, version, supply}
+use Rattle.model.specs.Tree.{size, entries, lookup, Ordered}
+use Rattle.model.specs.Sums.{minutes, those, within, sumBelow}
+use Rattle.model.specs.Heap.{Named, Linked, sizeAt, sumAt, tree, version, supply}
 use Rattle.model.specs.Block.{heap, Words, Shaped, SoundBlock}
 use Rattle.model.specs.Moves.{Running, Holding, FullBelow, HeldBelow, Swept, Finished}
 use Rattle.model.specs.Numbers.{RULE, NO_ROOM}
 use Rattle.model.specs.Calls.{fails, passes, Answer, refusal, giving, Versions, Edit, Edits}
-use Rattle.model.proofs.Loads.{tree-size}
+use Rattle.model.proofs.Loads.{tree-size, tree-sum}
+use Rattle.model.proofs.Sums.{total-minutes}
+use Rattle.tree.specs.Gathered.{Summable}
 use Rattle.model.proofs.Pieces.{AllNamed}
-use Rattle.model.proofs.Versions.{version-named, version-small}
+use Rattle.model.proofs.Versions.{version-named, version-small, version-ordered}
 use Rattle.block.specs.declared.Made.{Made}
 use Rattle.block.specs.declared.Made.the-variants.{At, Full}
 use Rattle.block.specs.Outcome.{Stands, Outcome}
@@ -53,6 +56,22 @@ module _ {b : List ℕ} {v r : ℕ} (S : Source b v r) where
 
   pub source-size : sizeAt (heap b) r ≡ size (version (heap b) v)
   source-size = sym (tree-size (heap b) (S .sound .sound .kept .linked) r source-named) ∙ ap (λ x. size (tree (heap b) x)) (S .is)
+
+  pub source-held : sumAt (heap b) r ≡ minutes (entries (version (heap b) v))
+  source-held = sym (tree-sum (heap b) (S .sound .sound .kept .linked) r source-named) ∙ total-minutes (tree (heap b) r) ∙ ap (λ x. minutes (entries (tree (heap b) x))) (S .is)
+
+  -- what a sum between two keys asks of it, and what it says
+  pub source-summable : Summable b r
+  source-summable = record {
+    shaped = S .sound .shaped;
+    linked = S .sound .sound .kept .linked;
+    named = source-named;
+    ordered = rw (S .is) (version-ordered (S .sound .sound) v (S .known));
+    small = omega (arith, source-small);
+  }
+
+  pub source-between : {s : ℕ} (first last : ℕ) → s ≡ sumBelow (heap b) (within first last) r → s ≡ minutes (those (within first last) (entries (version (heap b) v)))
+  source-between first last e = e ∙ ap (sumBelow (heap b) (within first last)) (S .is)
 
 -- the pieces of a rule of two trees, and what it asks of them
 module _ {b : List ℕ} {v w l r : ℕ} (S : Source b v l) (T : Source b w r) where

@@ -11,10 +11,15 @@ use Rattle.block.specs.declared.Found.the-variants.{Value, Absent}
 use Rattle.block.specs.declared.Made.{Made}
 use Rattle.block.specs.declared.Made.the-variants.{At, Full}
 use Rattle.table.specs.declared.answers.Answer.{Answer}
+use Rattle.table.specs.declared.answers.Minutes.{Minutes}
 
 -- the answer's number and fields
 abbrev pub answerOf : Answer → calls.Answer
 answerOf a = record { number = a .number; found = a .found; value = a .value }
+
+-- minutes are a value of more bits
+abbrev pub minutesOf : Minutes → calls.Answer
+minutesOf a = record { number = a .number; found = 0; value = a .minutes }
 
 abbrev pub isAbsent : Found → Bool
 isAbsent (Value v) = false

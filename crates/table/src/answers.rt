@@ -3,13 +3,39 @@ use block::Found;
 ghost use mathlib.Core.Path.{_≡_};
 ghost use Rattle.model.specs.Calls.{refusal, finding, giving};
 ghost use Rattle.block.specs.Outcome.{answer};
-ghost use Rattle.table.specs.Answers.{answerOf, ended};
+ghost use Rattle.table.specs.Answers.{answerOf, minutesOf, ended};
 
 // The call's number, 0 for done, and two fields, 0 on refusal.
 pub struct Answer {
     pub number: u32,
     pub found: u32,
     pub value: u32,
+}
+
+// The call's number, 0 for done, and minutes, 0 on refusal.
+pub struct Minutes {
+    pub number: u32,
+    pub minutes: u64,
+}
+
+// A refusal of a call that answers minutes.
+pub fn unheld(number: u32) -> Minutes
+    ensures { λ r. ⌜ minutesOf r ≡ refusal number ⌝ }
+{
+    Minutes {
+        number: number,
+        minutes: 0,
+    }
+}
+
+// Done, with minutes.
+pub fn holding(minutes: u64) -> Minutes
+    ensures { λ r. ⌜ minutesOf r ≡ giving minutes ⌝ }
+{
+    Minutes {
+        number: 0,
+        minutes: minutes,
+    }
 }
 
 // The number alone: a refusal, or the end of a call that has no fields.

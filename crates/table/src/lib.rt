@@ -5,6 +5,7 @@ pub mod edits;
 pub mod reads;
 
 pub use answers::Answer;
+pub use answers::Minutes;
 pub use edits::clear;
 pub use edits::copy;
 pub use edits::difference;
@@ -12,5 +13,7 @@ pub use edits::fresh;
 pub use edits::insert;
 pub use edits::remove;
 pub use edits::union;
+pub use reads::held;
+pub use reads::held_between;
 pub use reads::lookup;
 pub use reads::size;

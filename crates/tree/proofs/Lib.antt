@@ -3,3 +3,4 @@ pub mod Paths
 pub mod Inserts
 pub mod Removes
 pub mod Finds
+pub mod Gathers

@@ -1,4 +1,6 @@
 // The tree rules: the balanced make, insert, remove and lookup.
+pub mod held;
+
 use block::Found;
 use block::Made;
 use block::apart::take_apart;

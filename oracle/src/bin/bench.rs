@@ -8,6 +8,7 @@ use oracle::ledger::{self, Op};
 use oracle::original::{self, Map};
 use oracle::passes;
 use oracle::plain;
+use oracle::rules::{Supply, Tree};
 use oracle::random::Random;
 use oracle::table::Table;
 use oracle::wbtree::map::look;
@@ -57,6 +58,21 @@ fn changed(n: usize) -> Table {
     table
 }
 
+/// Version 0 with an entry in every node, from the middle: no call could fill the block so.
+fn full(n: usize) -> Table {
+    fn middle(supply: &mut Supply, from: u32, to: u32) -> Tree {
+        if from == to {
+            return None;
+        }
+        let key = from + (to - from) / 2;
+        let (left, right) = (middle(supply, from, key), middle(supply, key + 1, to));
+        supply.make(key, key, left, right)
+    }
+    let mut table = Table::fresh(n);
+    table.versions[0] = middle(&mut Supply::new(table.free()), 0, n as u32);
+    table
+}
+
 /// Version 1 with keys 0, step, 2 step and on, of which the even ones are also in version 0.
 fn beside(n: usize, count: u32, other: u32, step: u32) -> Table {
     let mut table = entries(n, count);
@@ -77,6 +93,7 @@ fn scenes(n: usize) -> Vec<Scene> {
     let insert = Call::Insert { dest: 0, source: 0, key: 77, value: 1 };
     let remove = Call::Remove { dest: 0, source: 0, key: 76 };
     let lookup = Call::Lookup { version: 0, key: 76 };
+    let between = Call::HeldBetween { version: 0, first: 1000, last: 3000 };
     let copy = Call::Copy { dest: 1, source: 0 };
     let line = Frame { batch: 7, index: 5, count: 100, kind: 1, key: 77, value: 1 }.line();
     let mut scenes = vec![
@@ -87,6 +104,8 @@ fn scenes(n: usize) -> Vec<Scene> {
         scene("insert into 2,000", &many, insert),
         scene("remove from 100", &few, remove.clone()),
         scene("remove from 2,000", &many, remove),
+        scene("held in 2,000", &many, Call::Held { version: 0 }),
+        scene("held between in 2,000", &many, between),
         scene("copy of 100", &few, copy.clone()),
         scene("copy of 2,000", &many, copy),
         scene("union of 100 and 100", &two, union.clone()),
@@ -101,6 +120,9 @@ fn scenes(n: usize) -> Vec<Scene> {
     ];
     // A union makes a node or more for each entry that both have, so beside 2,000 entries there is room for few.
     if n == 4096 {
+        scenes.push(scene("lookup in 4,096", &full(n), Call::Lookup { version: 0, key: 76 }));
+        scenes.push(scene("held in 4,096", &full(n), Call::Held { version: 0 }));
+        scenes.push(scene("held between in 4,096", &full(n), Call::HeldBetween { version: 0, first: 1000, last: 3000 }));
         scenes.push(scene("union of 2,000 and 100", &beside(n, 2000, 100, 31), union.clone()));
         scenes.push(scene("difference of 2,000 and 100", &beside(n, 2000, 100, 31), difference(0)));
         scenes.push(scene("union of 1,500 and its copy", &copied(n, 1500), union));
@@ -117,11 +139,21 @@ fn copied(n: usize, count: u32) -> Table {
     table
 }
 
+/// The original has no sums: its own iteration is added up.
+fn added(map: &Map, first: u32, last: u32) -> [u32; 2] {
+    let empty = Map::new();
+    let rows = map.difference_entries(&empty);
+    let minutes: u64 = rows.filter(|(key, ..)| (first..=last).contains(key)).map(|(_, value, _)| u64::from(*value)).sum();
+    [minutes as u32, (minutes >> 32) as u32]
+}
+
 /// The original's own call; lines and inbox, which it does not have, in plain fast Rust.
 fn native(maps: &mut [Map], inbox: &mut [u32], call: &Call, reply: &mut Reply) {
     match *call {
         Call::Size { version } => reply.fields[0] = maps[version as usize].len() as u32,
         Call::Lookup { version, key } => reply.fields[1] = *maps[version as usize].get(&key).unwrap_or(&0),
+        Call::Held { version } => reply.fields = added(&maps[version as usize], 0, u32::MAX),
+        Call::HeldBetween { version, first, last } => reply.fields = added(&maps[version as usize], first, last),
         Call::List { left, right, .. } => {
             let rows = maps[left as usize].difference_entries(&maps[right as usize]);
             for (place, (key, value, other)) in reply.words.chunks_exact_mut(4).zip(rows) {

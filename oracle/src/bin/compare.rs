@@ -1,12 +1,12 @@
 //! Compares the exported calls with the original and with documents 01 and 02. Usage: compare [seed] [times]
 
 use oracle::exports::ANSWERS;
-use oracle::parts::{cases, damage, exhaustive, histories, ledger, limits, lines, link, room, uneven, Compared, Effort};
+use oracle::parts::{cases, damage, exhaustive, held, histories, ledger, limits, lines, link, room, uneven, Compared, Effort};
 use std::process::ExitCode;
 use std::sync::atomic::Ordering;
 use std::time::Instant;
 
-const PARTS: [(&str, fn(Effort) -> Compared); 13] = [
+const PARTS: [(&str, fn(Effort) -> Compared); 14] = [
     ("worked cases of document 01", cases::worked),
     ("fresh blocks at every N", limits::fresh),
     ("inboxes: begin and missing", limits::inboxes),
@@ -19,6 +19,7 @@ const PARTS: [(&str, fn(Effort) -> Compared); 13] = [
     ("uneven trees: listings and depth", uneven::depths),
     ("damaged and cut blocks and inboxes", damage::refusals),
     ("links with loss, repeats and delay", link::sent),
+    ("minutes held: bounds and damaged sums", held::all),
     ("ledgers", ledger::all),
 ];
 

@@ -18,7 +18,7 @@ pub fn small(effort: Effort) -> Compared {
 /// Trees of hundreds of entries: rotations, joins and splits at depth.
 pub fn large(effort: Effort) -> Compared {
     effort.each(30, |random| {
-        let n = random.pick(&[1024, 2048, 4096]);
+        let n = random.pick(&[1024, 2016, 4096]);
         let keys = if random.once_in(2) { Keys::Any } else { Keys::Below(n / 2) };
         let mix = Mix { versions: 2 + random.below(4), keys, illegal: 500 };
         let mut trio = Trio::fresh(n);
@@ -48,10 +48,12 @@ fn closing(random: &mut Random, trio: &mut Trio, mix: Mix) -> Compared {
     for version in 0..mix.versions as u32 {
         let other = random.below(16) as u32;
         calls.push(Call::Size { version });
+        calls.push(Call::Held { version });
         calls.push(Call::List { left: version, right: other, start: 0, room });
         calls.push(Call::List { left: other, right: version, start: 0, room });
         if let Keys::Below(bound @ ..=40) = mix.keys {
             calls.extend((0..=bound as u32).map(|key| Call::Lookup { version, key }));
+            calls.extend((0..=bound as u32).map(|first| Call::HeldBetween { version, first, last: random.below(bound + 1) as u32 }));
         }
     }
     calls.iter().try_for_each(|call| trio.step(call).map(drop))?;

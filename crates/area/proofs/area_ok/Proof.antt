@@ -9,6 +9,7 @@ use borrow.Author.Tests.{not-false}
 use Rattle.model.proofs.Tells.{tells-yes, tells-no, tells-map}
 use Rattle.area.proofs.Links.{nodes-linked, linked-nodes}
 use Rattle.area.proofs.Orders.{area-yes, area-orders}
+use Rattle.model.specs.Block.{width}
 use Rattle.area.proofs.area_ok.Statement.{statement}
 use Rattle.area.proofs.area_ok.Tie as tie
 
@@ -22,7 +23,7 @@ returns : tie.Need-returns
 returns c =
     let st = c .before .before .before .before .before .before .before in
     let a = st .args .a .now in
-    let n = length a / 6 in
+    let n = length a / width in
     let ns = c .before .before .before .nodes-ok in (
       λ A. tells-no (ns .result) (ns .ensures .0) (c .if1 .taken) (linked-nodes a n (omega (arith, st .pre .0)) (A .linked)),
       λ e. absurd (true≢false (sym e)),
@@ -32,7 +33,7 @@ orders-ok-requires : tie.Need-orders-ok-requires
 orders-ok-requires c κs =
     let st = c .before .before .before .before .before .before .before in
     let a = st .args .a .now in
-    let n = length a / 6 in
+    let n = length a / width in
     let ns = c .before .before .before .nodes-ok in
     let L = nodes-linked a n (omega (arith, st .pre .0)) (tells-yes (ns .result) (ns .ensures .0) (c .if1 .left)) in
     (omega (arith, st .pre .0), omega (arith, st .pre .1), L)
@@ -44,7 +45,7 @@ returns-2 : tie.Need-returns-2
 returns-2 c =
     let st = c .before .before .before .before .before .before .before .before in
     let a = st .args .a .now in
-    let n = length a / 6 in
+    let n = length a / width in
     let ns = c .before .before .before .before .nodes-ok in
     let L = nodes-linked a n (omega (arith, st .pre .0)) (tells-yes (ns .result) (ns .ensures .0) (c .before .if1 .left)) in
     let os = c .orders-ok in (

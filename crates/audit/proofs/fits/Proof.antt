@@ -2,6 +2,7 @@
 use Prim.Native.Nat.{_+_, _*_, _/_}
 use native.Mathlib.Omega.{arith}
 use borrow.Author.Needs.{needs}
+use Rattle.model.specs.Block.{width}
 use Rattle.model.proofs.Tells.{tells-eqb}
 use Rattle.audit.proofs.fits.Statement.{statement}
 use Rattle.audit.proofs.fits.Tie as tie
@@ -27,7 +28,7 @@ add-result-2 c = search needs
 returns-4 : tie.Need-returns-4
 returns-4 c =
     let a = c .before .before .before .args in
-    tells-eqb (a .words) (17 + a .n / 32 + 6 * a .n) (λ l. record { least = omega arith; most = omega arith; whole = c .if3 .left; long = l }) (λ F. F .long)
+    tells-eqb (a .words) (17 + a .n / 32 + width * a .n) (λ l. record { least = omega arith; most = omega arith; whole = c .if3 .left; long = l }) (λ F. F .long)
 
 pub fits-spec : {M : Type 1} → statement M
 fits-spec =

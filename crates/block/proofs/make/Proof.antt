@@ -1,16 +1,16 @@
--- The lowest free node is taken and written, then each child's count raised: what stands in the end is the rule's node over its children's trees.
+-- The lowest free node is taken and written, then each child's count raised: what stands in the end is the rule's node over its children's trees. A sum is below 2 ^ 52, as sizes are below 2 ^ 20.
 use native.Mathlib.Omega.{arith}
-use borrow.Author.Needs.{needs}
 use mathlib.Core.Path.{sym, _∙_}
 use mathlib.Core.Bool.{true}
 use Prim.Native.Nat.{ℕ, _+_}
 use Rattle.model.specs.Block.{heap, room, occupiedAt}
-use Rattle.model.specs.Heap.{sizeAt}
+use Rattle.model.specs.Heap.{sizeAt, sumAt}
 use Rattle.model.specs.Moves.{Writing}
 use Rattle.model.proofs.Growing.{came-full}
 use Rattle.block.proofs.Free.{found-none}
 use Rattle.block.proofs.Writes.{fields, take-asks, took, wrote}
 use Rattle.block.proofs.Makes.{Lowest, lowest-found, Making, left-asks, right-asks, makes}
+use borrow.Author.Needs.{needs}
 use Rattle.block.proofs.make.Statement.{statement}
 use Rattle.block.proofs.make.Tie as tie
 
@@ -18,7 +18,7 @@ abbrev entry : tie.Else1 → tie.Start
 entry c = c .before .before .before .before
 
 abbrev found-at : tie.After-take-bit → tie.Else1
-found-at c = c .before .before .before .before .before .before
+found-at c = c .before .before .before .before .before .before .before .before .before .before .before
 
 abbrev taken-at : tie.After-write → tie.After-take-bit
 taken-at c = c .before .before .before .before
@@ -37,15 +37,18 @@ making c =
     let at = found-at (taken-at c) in
     let a = entry at .args in
     let h = heap (a .b .now) in
-    let left = taken-at c .before .before .before .before .size-at .ensures in
-    let right = taken-at c .before .before .size-at2 .ensures in
-    let xs = fields (a .key) (a .value) (a .left) (a .right) (sizeAt h (a .left) + sizeAt h (a .right) + 1) in
+    let left = c .before .before .before .before .before .before .before .before .before .before .before .before .before .size-at .ensures in
+    let right = c .before .before .before .before .before .before .before .before .before .before .before .size-at2 .ensures in
+    let value = c .before .before .before .before .before .before .before .before .before .before .long .ensures .0 in
+    let low = c .before .before .before .before .before .before .before .before .sum-at .ensures .0 in
+    let high = c .before .before .before .before .before .before .sum-at2 .ensures .0 in
+    let xs = fields (a .key) (a .value) (a .left) (a .right) (sizeAt h (a .left) + sizeAt h (a .right) + 1) (a .value + sumAt h (a .left) + sumAt h (a .right)) in
     record {
       running = entry at .pre .0 .running;
       lowest = found at;
       left = entry at .pre .1;
       right = entry at .pre .2;
-      wrote = wrote (at .before .lowest-free .result) (a .key) (a .value) (a .left) (a .right) _ (taken (taken-at c) xs) (rw (← left, ← right) (c .write .ensures));
+      wrote = wrote (at .before .lowest-free .result) (a .key) (a .value) (a .left) (a .right) _ _ (taken (taken-at c) xs) (rw (left, right, value, low, high) at (c .write .ensures));
     }
 
 lowest-free-requires : tie.Need-lowest-free-requires
@@ -72,8 +75,23 @@ add-size c = search needs
 add-size-2 : tie.Need-add-size-2
 add-size-2 c = search needs
 
+long-requires : tie.Need-long-requires
+long-requires c κs = search needs
+
+sum-at-requires : tie.Need-sum-at-requires
+sum-at-requires c κs = search needs
+
+add-sum : tie.Need-add-sum
+add-sum c = search needs
+
+sum-at-requires-2 : tie.Need-sum-at-requires-2
+sum-at-requires-2 c κs = search needs
+
+add-sum-2 : tie.Need-add-sum-2
+add-sum-2 c = search needs
+
 take-bit-requires : tie.Need-take-bit-requires
-take-bit-requires c κs = let at = c .before .before .before .before .before in take-asks (at .before .lowest-free .result) (found at .node)
+take-bit-requires c κs = let at = c .before .before .before .before .before .before .before .before .before .before in take-asks (at .before .lowest-free .result) (found at .node)
 
 write-requires : tie.Need-write-requires
 write-requires c κs = let bit = taken (c .before .before .before) (λ x. x) in (bit .shaped, bit .low, bit .high)
@@ -91,4 +109,24 @@ returns-2 : tie.Need-returns-2
 returns-2 c = makes (making (c .before .before .before .before .before .before .before .before .before .before)) (c .before .before .before .before .before .before .raise .ensures) (c .before .before .raise2 .ensures)
 
 pub make-spec : {M : Type 1} → statement M
-make-spec = tie.close (tie.spec lowest-free-requires same-length returns size-at-requires size-at-requires-2 add-size add-size-2 take-bit-requires write-requires raise-requires raise-requires-2 same-length-2 returns-2)
+make-spec =
+    tie.close
+    (tie.spec
+    lowest-free-requires
+    same-length
+    returns
+    size-at-requires
+    size-at-requires-2
+    add-size
+    add-size-2
+    long-requires
+    sum-at-requires
+    add-sum
+    sum-at-requires-2
+    add-sum-2
+    take-bit-requires
+    write-requires
+    raise-requires
+    raise-requires-2
+    same-length-2
+    returns-2)

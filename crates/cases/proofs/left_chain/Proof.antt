@@ -8,7 +8,7 @@ use Rattle.cases.proofs.left_chain.Statement.{statement}
 use Rattle.cases.proofs.left_chain.Tie as tie
 
 abbrev Inv-loop : tie.InvT-loop
-Inv-loop more b₀ out i₀ t6 t7 b i = length b ≡ 596
+Inv-loop more b₀ out i₀ t6 t7 b i = length b ≡ 788
 
 abbrev μ-loop : tie.MeasureT-loop
 μ-loop more b₀ out i₀ t6 t7 b i = 64 + more - i

@@ -7,6 +7,7 @@ use native.Mathlib.Omega.{arith}
 use borrow.Author.Tests.{not-false}
 use Rattle.model.proofs.Tells.{tells-yes, tells-no}
 use Rattle.area.proofs.Tallies.{zeros, at-most-le}
+use Rattle.model.specs.Block.{width}
 use Rattle.audit.proofs.Parts.{area-long, sound-parts, last-answer}
 use Rattle.audit.proofs.whole.whole_ok.Statement.{statement}
 use Rattle.audit.proofs.whole.whole_ok.Tie as tie
@@ -51,7 +52,7 @@ roots-ok-requires c κs =
       st .pre .1,
       omega (arith, len, st .pre .1),
       ar .kept .1 .0,
-      at-most-le s (2 * (length a / 6)) 8192 (omega (arith, len, B .most)) (ar .ensures .1 (not-false _ (c .before .if1 .left)) .most),
+      at-most-le s (2 * (length a / width)) 8192 (omega (arith, len, B .most)) (ar .ensures .1 (not-false _ (c .before .if1 .left)) .most),
     )
 
 returns-2 : tie.Need-returns-2

@@ -1,4 +1,4 @@
--- The bit is cleared and six zeros are written; nothing else changes.
+-- The bit is cleared and zeros are written; nothing else changes.
 use borrow.Author.Needs.{needs}
 use mathlib.Core.Bool.{false}
 use Prim.Native.Nat.{ℕ}
@@ -24,7 +24,7 @@ returns : tie.Need-returns
 returns c =
     let at = c .before .before .before .before .before .before in
     let st = at .before .before .before in
-    let W = wrote (st .args .n) 0 0 0 0 0 (bit at (fields 0 0 0 0 0)) (c .before .before .write .ensures) in
+    let W = wrote (st .args .n) 0 0 0 0 0 0 (bit at (fields 0 0 0 0 0 0)) (c .before .before .write .ensures) in
     (W .shaped, emptied W (st .pre .1))
 
 pub clear-spec : {M : Type 1} → statement M
