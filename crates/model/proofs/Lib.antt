@@ -52,9 +52,7 @@ pub mod Lines
 pub mod Frames
 pub mod Heard
 pub mod Missing
-pub mod Replies
 pub mod Replicas
-pub mod Demand
 pub mod Receiving
 pub mod Standbys
 -- The calls

@@ -1,160 +1,155 @@
--- Demand 3 of the call receive: lines one after another on a block and an inbox are a standby that hears frames.
+-- One line received: it is turned away, or it is a repeat, or its edit is done and its index marked; and what the answer then reports.
 use mathlib.Core.Path.{_≡_, refl, ap, sym, subst, _∙_}
 use mathlib.Core.Logic.{_≢_, _⊎_, inl, inr, _↔_}
-use Prim.Native.Nat.{ℕ, zero, suc, _<_}
-use mathlib.Core.Bool.{Bool, true, false, _||_, false≢true}
+use Prim.Native.Nat.{ℕ, suc, _<_}
+use mathlib.Core.Bool.{Bool, true, false, false≢true}
 use mathlib.Core.Option.{Option, none, some}
 use mathlib.Core.List.{List}
-use lib.Dec.{eqb}
 use borrow.Author.Tests.{eq-eqb, ne-eqb}
 use native.Mathlib.Omega.{arith}
-use Rattle.model.specs.Tree.{Tree, entries, Ordered}
-use Rattle.model.specs.Supply.{Supply}
+use native.Mathlib.Decide.{ℕ-discrete}
 use Rattle.model.specs.Heap.{version, supply}
 use Rattle.model.specs.Block.{heap, SoundBlock}
 use Rattle.model.specs.Frame.{Frame, parse}
-use Rattle.model.specs.Inbox.{batchOf, countOf, heardAt, SoundInbox, marked, missing}
-use Rattle.model.specs.Numbers.{NO_ROOM, FRAME, BATCH, COUNT}
-use Rattle.model.specs.Replica.{Standby, Arrival, Reply, refused, repeat, new, reply, edited, hear, accepted}
+use Rattle.model.specs.Inbox.{batchOf, countOf, heardAt, SoundInbox, marked, missing, question, Complete}
+use Rattle.model.specs.Numbers.{NO_ROOM}
 use Rattle.model.specs.Calls.{fails, passes, Edited}
-use Rattle.model.specs.Link.{Heard, frameRule, Step, turnedAway, Takes, Says, Receive}
-use Rattle.model.proofs.Entries.{insert-entries}
-use Rattle.model.proofs.Edits.{remove-entries}
-use Rattle.model.proofs.Versions.{version-ordered}
+use Rattle.model.specs.Link.{Missing, Heard, frameRule, Step, turnedAway, Takes, Says, Receive}
+use Rattle.model.proofs.Lines.{Legal, legal-exactly, parse-only}
+use Rattle.model.proofs.Heard.{Markable, marked-count, marked-sound}
 
--- the edit of a frame, by its tree rule and on plain entries
-frame-entries : (f : Frame) (t : Tree) (s : Supply) → Ordered t → entries (frameRule f t s .0) ≡ edited f (entries t)
-unfolding frameRule edited
-frame-entries f t s o = go (f .kind) refl
-  where
-    go : (k : ℕ) → f .kind ≡ k → entries (frameRule f t s .0) ≡ edited f (entries t)
-    go zero e = rw (e, frameRule) refl
-    go (suc zero) e = rw (e, frameRule) (insert-entries t (f .key) (f .value) s o)
-    go (suc (suc k)) e = rw (e, frameRule) (remove-entries t (f .key) s o)
+-- the line's frame belongs to the inbox's batch, and its count does not differ
+pub record Belongs (x : List ℕ) (f : Frame) : Type 0 where
+  pub batch : f .batch ≡ batchOf x
+  pub counts : (countOf x ≡ 0) ⊎ (countOf x ≡ f .count)
 
--- what a standby is: its inbox, and the entries of its version
-abbrev pub standby : (b x : List ℕ) (v : ℕ) → Standby
-standby b x v = record { inbox = x; entries = entries (version (heap b) v) }
+-- accepted: the answer has as missing what the inbox then lacks
+pub record Accepted (s : Step) : Type 0 where
+  pub number : s .answer .number ≡ 0
+  pub missing : s .answer .missing ≡ missing (s .inbox′)
 
--- a line that says f, heard: one step of the standby; accepted exactly when the answer is 0; no other version is touched
-pub record Hears (s : Step) (v : ℕ) (f : Frame) : Type 0 where
-  pub room : Bool
-  pub is : hear (standby (s .block) (s .inbox) v) (record { frame = f; room = room }) ≡ standby (s .block′) (s .inbox′) v
-  pub told : (accepted (reply (s .inbox) (record { frame = f; room = room })) ≡ true) ↔ (s .answer .number ≡ 0)
-  pub sound : SoundBlock (s .block′)
-  pub others : (w : ℕ) → w < 16 → w ≢ v → version (heap (s .block′)) w ≡ version (heap (s .block)) w
+-- what comes of a line that says o
+pub data Outcome (s : Step) (v : ℕ) (o : Option Frame) : Type 0 where
+  away : s .answer .number ≢ 0 → s .block′ ≡ s .block → s .inbox′ ≡ s .inbox → Outcome s v o
+  again : (f : Frame) → o ≡ some f → Belongs (s .inbox) f → heardAt (s .inbox) (f .index) ≡ true → Accepted s
+      → s .block′ ≡ s .block → s .inbox′ ≡ s .inbox → Outcome s v o
+  new : (f : Frame) → o ≡ some f → Belongs (s .inbox) f → heardAt (s .inbox) (f .index) ≡ false → Accepted s
+      → Edited (s .block) (s .block′) v (frameRule f (version (heap (s .block)) v) (supply (heap (s .block))) .0) → s .inbox′ ≡ marked (s .inbox) (f .count) (f .index) → Outcome s v o
 
-module _ (s : Step) (v : ℕ) (B : SoundBlock (s .block)) (f : Frame) where
-  abbrev arrival : Bool → Arrival
-  arrival room = record { frame = f; room = room }
+module _ (s : Step) (v : ℕ) where
+  turned : {n : ℕ} {o : Option Frame} → turnedAway s (suc n) → Outcome s v o
+  turned {n} u = away (λ z. let e : suc n ≡ 0 = sym (ap (λ (a : Heard). a .number) (u .0)) ∙ z in omega arith) (u .1) (u .2)
 
-  -- nothing has changed, and the reply changes nothing either
-  kept : (room : Bool) (r : Reply) (a : Heard) → hear (standby (s .block) (s .inbox) v) (arrival room) ≡ standby (s .block) (s .inbox) v → reply (s .inbox) (arrival room) ≡ r
-      → (s .answer ≡ a) × (s .block′ ≡ s .block) × (s .inbox′ ≡ s .inbox) → (accepted r ≡ true) ↔ (a .number ≡ 0) → Hears s v f
-  kept room r a h e u i = record {
-    room = room;
-    is = rw (u .1, u .2) h;
-    told = rw (e, u .0) i;
-    sound = subst SoundBlock (sym (u .1)) B;
-    others = λ w lt ne. ap (λ z. version (heap z) w) (u .1);
-  }
+  accepted : {n : ℕ} (y : List ℕ) → s .answer ≡ record { number = 0; again = n; missing = missing y } → s .inbox′ ≡ y → Accepted s
+  accepted y e x = record { number = ap (λ (a : Heard). a .number) e; missing = ap (λ (a : Heard). a .missing) e ∙ ap missing (sym x) }
 
-  -- a refusal is not accepted
-  refusal-told : (n m : ℕ) → (accepted (refused n) ≡ true) ↔ (suc m ≡ 0)
-  unfolding accepted
-  refusal-told n m = ((λ e. absurd (false≢true e)), (λ e. absurd (omega arith)))
+  taken : (f : Frame) → Belongs (s .inbox) f → (heard : Bool) → heardAt (s .inbox) (f .index) ≡ heard → Takes s v f heard → Outcome s v (some f)
+  taken f B true e u = again f refl B e (accepted (s .inbox) (u .0) (u .2)) (u .1) (u .2)
+  taken f B false e (fails p u) = turned u
+  taken f B false e (passes p u) = new f refl B e (accepted (marked (s .inbox) (f .count) (f .index)) (u .0) (u .2)) (u .1) (u .2)
 
-  stays : (room : Bool) (n : ℕ) → reply (s .inbox) (arrival room) ≡ refused n → hear (standby (s .block) (s .inbox) v) (arrival room) ≡ standby (s .block) (s .inbox) v
-  unfolding hear
-  stays room n e = rw (e, hear)
+  says-outcome : (o : Option Frame) → Says s v o → Outcome s v o
+  says-outcome none u = turned u
+  says-outcome (some f) (fails p u) = turned u
+  says-outcome (some f) (passes p (fails q u)) = turned u
+  says-outcome (some f) (passes p (passes q T)) = taken f (record { batch = p; counts = q }) (heardAt (s .inbox) (f .index)) refl T
 
-  wrong-batch : f .batch ≢ batchOf (s .inbox) → reply (s .inbox) (arrival true) ≡ refused BATCH
-  unfolding reply
-  wrong-batch ne = rw (ne-eqb (f .batch) (batchOf (s .inbox)) ne, reply)
+  pub receive-outcome : (line : List ℕ) → Receive s v line → Outcome s v (parse line)
+  receive-outcome line (fails p u) = turned u
+  receive-outcome line (passes a (fails p u)) = turned u
+  receive-outcome line (passes a (passes c (fails p u))) = turned u
+  receive-outcome line (passes a (passes c (passes d (fails p u)))) = turned u
+  receive-outcome line (passes a (passes c (passes d (passes e (fails p u))))) = turned u
+  receive-outcome line (passes a (passes c (passes d (passes e (passes g T))))) = says-outcome (parse line) T
 
-  wrong-count : f .batch ≡ batchOf (s .inbox) → (((countOf (s .inbox) ≡ 0) ⊎ (countOf (s .inbox) ≡ f .count)) → ⊥) → reply (s .inbox) (arrival true) ≡ refused COUNT
-  unfolding reply
-  wrong-count e no-count = rw (eq-eqb (f .batch) (batchOf (s .inbox)) e, reply) (rw (ne-eqb (countOf (s .inbox)) 0 (λ q. no-count (inl q)), ne-eqb (countOf (s .inbox)) (f .count) (λ q. no-count (inr q))) refl)
-
-  right-count : (countOf (s .inbox) ≡ 0) ⊎ (countOf (s .inbox) ≡ f .count) → (eqb (countOf (s .inbox)) 0 || eqb (countOf (s .inbox)) (f .count)) ≡ true
-  right-count (inl e) = rw (eq-eqb (countOf (s .inbox)) 0 e) refl
-  right-count (inr e) = go (eqb (countOf (s .inbox)) 0)
+  -- a frame of the batch, on a sound block and inbox, is refused only for room
+  pub belongs-only-room : (line : List ℕ) (f : Frame) → SoundBlock (s .block) → SoundInbox (s .inbox) → v < 16 → Receive s v line → parse line ≡ some f → Belongs (s .inbox) f
+      → (s .answer .number ≡ 0) ⊎ (s .answer .number ≡ NO_ROOM)
+  belongs-only-room line f B X lt (fails p u) e W = absurd (p (B .shaped))
+  belongs-only-room line f B X lt (passes a (fails p u)) e W = absurd (p (X .long))
+  belongs-only-room line f B X lt (passes a (passes c (fails p u))) e W = absurd (p B)
+  belongs-only-room line f B X lt (passes a (passes c (passes d (fails p u)))) e W = absurd (p X)
+  belongs-only-room line f B X lt (passes a (passes c (passes d (passes g (fails p u))))) e W = absurd (p lt)
+  belongs-only-room line f B X lt (passes a (passes c (passes d (passes g (passes h T))))) e W = says (subst (Says s v) e T)
     where
-      go : (t : Bool) → (t || eqb (countOf (s .inbox)) (f .count)) ≡ true
-      go true = refl
-      go false = eq-eqb (countOf (s .inbox)) (f .count) e
+      number : {a : Heard} → s .answer ≡ a → s .answer .number ≡ a .number
+      number q = ap (λ (a : Heard). a .number) q
 
-  module _ (same : f .batch ≡ batchOf (s .inbox)) (count : (countOf (s .inbox) ≡ 0) ⊎ (countOf (s .inbox) ≡ f .count)) where
-    heard-reply : (room : Bool) → heardAt (s .inbox) (f .index) ≡ true → reply (s .inbox) (arrival room) ≡ repeat
-    unfolding reply
-    heard-reply room e = rw (eq-eqb (f .batch) (batchOf (s .inbox)) same, reply) (rw (right-count count) (rw e refl))
+      takes : (heard : Bool) → Takes s v f heard → (s .answer .number ≡ 0) ⊎ (s .answer .number ≡ NO_ROOM)
+      takes true u = inl (number (u .0))
+      takes false (fails p u) = inr (number (u .0))
+      takes false (passes p u) = inl (number (u .0))
 
-    unheard-reply : (room : Bool) → heardAt (s .inbox) (f .index) ≡ false → reply (s .inbox) (arrival room) ≡ elim room [ true ↦ new | false ↦ refused NO_ROOM ]
-    unfolding reply
-    unheard-reply room e = rw (eq-eqb (f .batch) (batchOf (s .inbox)) same, reply) (rw (right-count count) (rw e refl))
+      says : Says s v (some f) → (s .answer .number ≡ 0) ⊎ (s .answer .number ≡ NO_ROOM)
+      says (fails p u) = absurd (p (W .batch))
+      says (passes p (fails q u)) = absurd (q (W .counts))
+      says (passes p (passes q T)) = takes (heardAt (s .inbox) (f .index)) T
 
-    -- an index already heard
-    hears-again : heardAt (s .inbox) (f .index) ≡ true → (s .answer ≡ record { number = 0; again = 1; missing = missing (s .inbox) }) × (s .block′ ≡ s .block) × (s .inbox′ ≡ s .inbox) → Hears s v f
-    unfolding hear accepted
-    hears-again e u = kept true repeat _ (rw (heard-reply true e, hear)) (heard-reply true e) u ((λ q. refl), (λ q. refl))
+  -- only lines of the inbox's batch change block or inbox
+  pub foreign-changes-nothing : (line : List ℕ) → ((f : Frame) → parse line ≡ some f → f .batch ≢ batchOf (s .inbox)) → Receive s v line → (s .block′ ≡ s .block) × (s .inbox′ ≡ s .inbox)
+  foreign-changes-nothing line foreign R = go (receive-outcome line R)
+    where
+      go : Outcome s v (parse line) → (s .block′ ≡ s .block) × (s .inbox′ ≡ s .inbox)
+      go (away n b x) = (b, x)
+      go (again f e B h a b x) = (b, x)
+      go (new f e B h a E x) = absurd (foreign f e (B .batch))
 
-    -- its edit found no room
-    hears-full : heardAt (s .inbox) (f .index) ≡ false → (s .answer ≡ record { number = NO_ROOM; again = 0; missing = 0 }) × (s .block′ ≡ s .block) × (s .inbox′ ≡ s .inbox) → Hears s v f
-    hears-full e u = kept false (refused NO_ROOM) _ (stays false NO_ROOM (unheard-reply false e)) (unheard-reply false e) u (refusal-told NO_ROOM 4)
+  -- no other version changes
+  pub receive-others : (line : List ℕ) → Receive s v line → (w : ℕ) → w < 16 → w ≢ v → version (heap (s .block′)) w ≡ version (heap (s .block)) w
+  receive-others line R w lt ne = go (receive-outcome line R)
+    where
+      go : Outcome s v (parse line) → version (heap (s .block′)) w ≡ version (heap (s .block)) w
+      go (away n b x) = ap (λ z. version (heap z) w) b
+      go (again f e B h a b x) = ap (λ z. version (heap z) w) b
+      go (new f e B h a E x) = E .others w lt ne
 
-    -- its edit was done
-    hears-new : v < 16 → heardAt (s .inbox) (f .index) ≡ false → s .answer .number ≡ 0
-        → Edited (s .block) (s .block′) v (frameRule f (version (heap (s .block)) v) (supply (heap (s .block))) .0) → s .inbox′ ≡ marked (s .inbox) (f .count) (f .index) → Hears s v f
-    unfolding hear accepted
-    hears-new lt e z E m = record {
-      room = true;
-      is = rw (unheard-reply true e, hear) (λ i. record { inbox = sym m i; entries = sym held i });
-      told = rw (unheard-reply true e) ((λ q. z), (λ q. refl));
-      sound = E .sound;
-      others = E .others;
-    }
-      where
-        held : entries (version (heap (s .block′)) v) ≡ edited f (entries (version (heap (s .block)) v))
-        held = ap entries (E .here) ∙ frame-entries f (version (heap (s .block)) v) (supply (heap (s .block))) (version-ordered (B .sound) v lt)
+-- a line that says f is legal, so an index that is not heard may be marked
+pub line-markable : {x : List ℕ} (line : List ℕ) (f : Frame) → SoundInbox x → parse line ≡ some f → Belongs x f → heardAt x (f .index) ≡ false → Markable x (f .count) (f .index)
+line-markable line f X e B h =
+    let L = legal-exactly f .0 (parse-only line f e .1) in
+    record { sound = X; small = L .most; below = L .below; counts = B .counts; new = h }
 
-    hears-taken : v < 16 → (heard : Bool) → heardAt (s .inbox) (f .index) ≡ heard → Takes s v f heard → Hears s v f
-    hears-taken lt true e u = hears-again e u
-    hears-taken lt false e (fails p r) = hears-full e r
-    hears-taken lt false e (passes p r) = hears-new lt e (ap (λ (a : Heard). a .number) (r .0)) (r .1) (r .2)
+-- What is reported.
 
--- a line that says f
-says-hears : (s : Step) (v : ℕ) (f : Frame) → SoundBlock (s .block) → v < 16 → Says s v (some f) → Hears s v f
-says-hears s v f B lt (fails p r) = kept s v B f true (refused BATCH) _ (stays s v B f true BATCH (wrong-batch s v B f p)) (wrong-batch s v B f p) r (refusal-told s v B f BATCH 7)
-says-hears s v f B lt (passes p (fails q r)) = kept s v B f true (refused COUNT) _ (stays s v B f true COUNT (wrong-count s v B f p q)) (wrong-count s v B f p q) r (refusal-told s v B f COUNT 8)
-says-hears s v f B lt (passes p (passes q T)) = hears-taken s v B f p q lt (heardAt (s .inbox) (f .index)) refl T
+question-unknown : (x : List ℕ) → countOf x ≡ 0 → question x ≡ 4294967295
+unfolding question
+question-unknown x e = rw (eq-eqb (countOf x) 0 e, question)
 
--- what receive comes to on a sound block and inbox
-pub receive-says : (s : Step) (v : ℕ) (line : List ℕ) → SoundBlock (s .block) → SoundInbox (s .inbox) → v < 16 → Receive s v line → Says s v (parse line)
-receive-says s v line B X lt (fails p r) = absurd (p (B .shaped))
-receive-says s v line B X lt (passes a (fails p r)) = absurd (p (X .long))
-receive-says s v line B X lt (passes a (passes c (fails p r))) = absurd (p B)
-receive-says s v line B X lt (passes a (passes c (passes d (fails p r)))) = absurd (p X)
-receive-says s v line B X lt (passes a (passes c (passes d (passes e (fails p r))))) = absurd (p lt)
-receive-says s v line B X lt (passes a (passes c (passes d (passes e (passes g T))))) = T
+question-known : (x : List ℕ) → countOf x ≢ 0 → question x ≡ missing x
+unfolding question
+question-known x ne = rw (ne-eqb (countOf x) 0 ne, question)
 
--- a line that says f, received
-pub receive-hears : (s : Step) (v : ℕ) (line : List ℕ) (f : Frame) → SoundBlock (s .block) → SoundInbox (s .inbox) → v < 16 → Receive s v line → parse line ≡ some f → Hears s v f
-receive-hears s v line f B X lt R e = says-hears s v f B lt (subst (Says s v) e (receive-says s v line B X lt R))
-
--- a malformed line changes nothing and is refused
-pub receive-malformed : (s : Step) (v : ℕ) (line : List ℕ) → SoundBlock (s .block) → SoundInbox (s .inbox) → v < 16 → Receive s v line → parse line ≡ none → turnedAway s FRAME
-receive-malformed s v line B X lt R e = subst (Says s v) e (receive-says s v line B X lt R)
-
--- only lines of the inbox's batch change block or inbox
-pub foreign-changes-nothing : (s : Step) (v : ℕ) (line : List ℕ) → ((f : Frame) → parse line ≡ some f → f .batch ≢ batchOf (s .inbox)) → Receive s v line → (s .block′ ≡ s .block) × (s .inbox′ ≡ s .inbox)
-foreign-changes-nothing s v line foreign (fails p r) = (r .1, r .2)
-foreign-changes-nothing s v line foreign (passes a (fails p r)) = (r .1, r .2)
-foreign-changes-nothing s v line foreign (passes a (passes c (fails p r))) = (r .1, r .2)
-foreign-changes-nothing s v line foreign (passes a (passes c (passes d (fails p r)))) = (r .1, r .2)
-foreign-changes-nothing s v line foreign (passes a (passes c (passes d (passes e (fails p r))))) = (r .1, r .2)
-foreign-changes-nothing s v line foreign (passes a (passes c (passes d (passes e (passes g T))))) = go (parse line) refl T
+-- the missing question answers 0 exactly when the inbox is complete
+pub missing-complete : (x : List ℕ) (m : ℕ) → Missing x 0 m → (m ≡ 0) ↔ Complete x
+missing-complete x m (fails p u) = let z : _≡_ {A = ℕ} 0 1 = u .0 in absurd (omega arith)
+missing-complete x m (passes p (fails q u)) = let z : _≡_ {A = ℕ} 0 2 = u .0 in absurd (omega arith)
+missing-complete x m (passes p (passes q u)) = go (ℕ-discrete (countOf x) 0)
   where
-    go : (o : Option Frame) → parse line ≡ o → Says s v o → (s .block′ ≡ s .block) × (s .inbox′ ≡ s .inbox)
-    go none e r = (r .1, r .2)
-    go (some f) e (fails p r) = (r .1, r .2)
-    go (some f) e (passes p r) = absurd (foreign f e p)
+    go : Dec (countOf x ≡ 0) → (m ≡ 0) ↔ Complete x
+    go (yes e) = ((λ z. absurd (omega (arith, u .1, question-unknown x e))), (λ C. absurd (omega (arith, C .counted))))
+    go (no ne) = ((λ z. record { counted = omega arith; none = sym (question-known x ne) ∙ sym (u .1) ∙ z }), (λ C. u .1 ∙ question-known x ne ∙ C .none))
+
+-- a sound inbox is not refused the question
+pub missing-answers : (x : List ℕ) (n m : ℕ) → SoundInbox x → Missing x n m → n ≡ 0
+missing-answers x n m X (fails p u) = absurd (p (X .long))
+missing-answers x n m X (passes p (fails q u)) = absurd (q X)
+missing-answers x n m X (passes p (passes q u)) = u .0
+
+-- what an accepted line has as missing is what the question would answer then
+pub receive-reports : (s : Step) (v : ℕ) (line : List ℕ) → SoundInbox (s .inbox) → Receive s v line → s .answer .number ≡ 0 → Missing (s .inbox′) 0 (s .answer .missing)
+receive-reports s v line X R z = go (receive-outcome s v line R)
+  where
+    asked : Accepted s → SoundInbox (s .inbox′) → countOf (s .inbox′) ≢ 0 → Missing (s .inbox′) 0 (s .answer .missing)
+    asked A Y ne = passes (Y .long) (passes Y (refl, A .missing ∙ sym (question-known (s .inbox′) ne)))
+
+    legal : (f : Frame) → parse line ≡ some f → Legal f
+    legal f e = legal-exactly f .0 (parse-only line f e .1)
+
+    go : Outcome s v (parse line) → Missing (s .inbox′) 0 (s .answer .missing)
+    go (away n b x) = absurd (n z)
+    go (again f e B h a b x) =
+        let L = legal f e in
+        asked a (subst SoundInbox (sym x) X) (λ none. false≢true (sym (X .clear (f .index) (omega (arith, ap countOf x)) (omega (arith, L .most, L .below))) ∙ h))
+    go (new f e B h a E x) =
+        let M = line-markable line f X e B h in
+        asked a (subst SoundInbox (sym x) (marked-sound M)) (λ none. omega (arith, ap countOf x, marked-count M, legal f e .least))

@@ -1,35 +1,71 @@
--- A standby that hears the frames of a delta, in any order and any number of times, with losses, refusals and lines of other batches.
-use mathlib.Core.Path.{_≡_, refl, ap, sym, subst, _∙_}
+-- Entries and an inbox that follow a batch: what is heard of it stands as at its end, all else as at its start or as at its end.
+use mathlib.Core.Path.{_≡_, refl, ap, sym, _∙_}
 use mathlib.Core.Logic.{_⊎_, inl, inr, ⊎-elim, _↔_}
-use Prim.Native.Nat.{ℕ, zero, suc, _<_}
+use Prim.Native.Nat.{ℕ, zero, suc, _^_, _≤_, _<_}
 use mathlib.Core.Bool.{true, false≢true}
-use mathlib.Core.Option.{Option, none}
+use mathlib.Core.Option.{Option, none, some}
 use mathlib.Core.List.{List, [], _∷_}
 use lib.ListN.{length}
 use native.Mathlib.Omega.{arith}
 use native.Mathlib.Decide.{ℕ-discrete}
-use Rattle.model.specs.Tree.{Entry, find, Sorted, Is}
+use Rattle.model.specs.Tree.{Tree, Entry, entries, find, put, without, Sorted, Ordered, Is}
+use Rattle.model.specs.Supply.{Supply}
 use Rattle.model.specs.Delta.{Change, changeAt, Carries}
-use Rattle.model.specs.Frame.{Frame, framesOf, frameAt}
+use Rattle.model.specs.Frame.{Frame, frameOf, framesOf, frameAt}
 use Rattle.model.specs.Block.{Words}
 use Rattle.model.specs.Inbox.{batchOf, countOf, heardAt, SoundInbox, begun, marked, Complete}
-use Rattle.model.specs.Replica.{Standby, Arrival, Reply, refused, repeat, new, reply, edited, hear, hears, accepted, Accepted, started, Expected, AllExpected, Sending, Replica}
+use Rattle.model.specs.Link.{frameRule}
+use Rattle.model.proofs.Entries.{insert-entries}
+use Rattle.model.proofs.Edits.{remove-entries}
 use Rattle.model.proofs.Finds.{sorted-ext}
-use Rattle.model.proofs.Maps.{updated, updated-at, updated-other}
+use Rattle.model.proofs.Maps.{updated, updated-at, updated-other, put-is, without-is}
 use Rattle.model.proofs.Frames.{frames-length, frames-few, frame-at, frames-count}
 use Rattle.model.proofs.Heard.{Markable, begun-batch, begun-count, begun-sound, begun-words, begun-heard, marked-batch, marked-count, marked-sound, marked-words, marked-heard}
 use Rattle.model.proofs.Missing.{missing-zero}
-use Rattle.model.proofs.Replies.{Told, reply-told, edited-is}
 
--- what holds of a standby from the start: each key heard is as in fs, every other key as in es or fs
-pub record Follows (batch : ℕ) (es fs : List Entry) (cs : List Change) (s : Standby) : Type 0 where
-  pub same : batchOf (s .inbox) ≡ batch
-  pub sound : SoundInbox (s .inbox)
-  pub words : Words (s .inbox)
-  pub counts : (countOf (s .inbox) ≡ 0) ⊎ (countOf (s .inbox) ≡ length (framesOf batch cs))
-  pub sorted : Sorted (s .entries)
-  pub done : (i : ℕ) → i < length cs → heardAt (s .inbox) i ≡ true → find (s .entries) (changeAt cs i .key) ≡ find fs (changeAt cs i .key)
-  pub between : (k : ℕ) → (find (s .entries) k ≡ find es k) ⊎ (find (s .entries) k ≡ find fs k)
+-- the edit of a frame on plain entries
+unfoldable pub edited : Frame → List Entry → List Entry
+edited f es = elim (f .kind) [
+  | zero ↦ es
+  | suc k ↦ elim k [ zero ↦ put es (f .key) (f .value) | suc j ↦ without es (f .key) ]
+]
+
+-- it is what the frame's tree rule does
+pub frame-entries : (f : Frame) (t : Tree) (s : Supply) → Ordered t → entries (frameRule f t s .0) ≡ edited f (entries t)
+unfolding frameRule edited
+frame-entries f t s o = go (f .kind) refl
+  where
+    go : (k : ℕ) → f .kind ≡ k → entries (frameRule f t s .0) ≡ edited f (entries t)
+    go zero e = rw (e, frameRule) refl
+    go (suc zero) e = rw (e, frameRule) (insert-entries t (f .key) (f .value) s o)
+    go (suc (suc k)) e = rw (e, frameRule) (remove-entries t (f .key) s o)
+
+-- the edit of a change's frame sets its key to what the change says
+edited-is : (batch count i : ℕ) (c : Change) (xs : List Entry) → Sorted xs → Is (edited (frameOf batch count i c) xs) (updated c (find xs))
+unfolding frameOf edited
+edited-is batch count i c xs s = go (c .key) (c .now)
+  where
+    go : (k : ℕ) (o : Option ℕ) → Is (edited (frameOf batch count i (record { key = k; now = o })) xs) (updated (record { key = k; now = o }) (find xs))
+    go k none = without-is xs k s
+    go k (some v) = put-is xs k v s
+
+-- the changes carry the entries es to fs, and are as many as a batch may hold
+pub record Sending (batch : ℕ) (es fs : List Entry) (cs : List Change) : Type 0 where
+  pub number : batch < 2 ^ 32
+  pub short : length cs ≤ 4096
+  pub before : Sorted es
+  pub after : Sorted fs
+  pub carries : Carries (find es) (find fs) cs
+
+-- what holds of the inbox x and the entries xs from the start: each key heard is as in fs, every other key as in es or fs
+pub record Follows (batch : ℕ) (es fs : List Entry) (cs : List Change) (x : List ℕ) (xs : List Entry) : Type 0 where
+  pub same : batchOf x ≡ batch
+  pub sound : SoundInbox x
+  pub words : Words x
+  pub counts : (countOf x ≡ 0) ⊎ (countOf x ≡ length (framesOf batch cs))
+  pub sorted : Sorted xs
+  pub done : (i : ℕ) → i < length cs → heardAt x i ≡ true → find xs (changeAt cs i .key) ≡ find fs (changeAt cs i .key)
+  pub between : (k : ℕ) → (find xs k ≡ find es k) ⊎ (find xs k ≡ find fs k)
 
 -- the edit of a frame takes a key to what fs holds or leaves it
 record Edits (fs : List Entry) (cs : List Change) (i : ℕ) (xs ys : List Entry) : Type 0 where
@@ -60,8 +96,11 @@ frame-edits batch A fs (c ∷ cs) C i h xs s =
     rw (frame-at batch (c ∷ cs) i l) (change-edits A fs (c ∷ cs) C i l xs _ (edited-is batch (length (c ∷ cs)) i (changeAt (c ∷ cs) i) xs s))
 
 module _ {batch : ℕ} {es fs : List Entry} {cs : List Change} (D : Sending batch es fs cs) where
-  -- a standby just started
-  pub start-follows : Follows batch es fs cs (started batch es)
+  abbrev sent : List Frame
+  sent = framesOf batch cs
+
+  -- an inbox just begun
+  pub start-follows : Follows batch es fs cs (begun batch) es
   start-follows = record {
     same = begun-batch batch;
     sound = begun-sound batch;
@@ -72,135 +111,61 @@ module _ {batch : ℕ} {es fs : List Entry} {cs : List Change} (D : Sending batc
     between = λ k. inl refl;
   }
 
-  -- a new line is a frame of the batch that can be marked
-  record Fresh (s : Standby) (f : Frame) : Type 0 where
-    index : f .index < length (framesOf batch cs)
-    count : f .count ≡ length (framesOf batch cs)
-    is : f ≡ frameAt (framesOf batch cs) (f .index)
-    markable : Markable (s .inbox) (f .count) (f .index)
+  -- where the batch is followed the count of each frame is the inbox's, if that has one
+  pub counts-agree : {x : List ℕ} {xs : List Entry} → Follows batch es fs cs x xs → (i : ℕ) → i < length sent → (countOf x ≡ 0) ⊎ (countOf x ≡ frameAt sent i .count)
+  counts-agree F i h = ⊎-elim (λ e. inl e) (λ e. inr (e ∙ sym (frames-count batch cs i h .count))) (F .counts)
 
-  fresh : (s : Standby) (a : Arrival) → Follows batch es fs cs s → Expected batch (framesOf batch cs) (a .frame) → Told (s .inbox) a new → Fresh s (a .frame)
-  fresh s a F (inr other) t = absurd (other (t .0 ∙ F .same))
-  fresh s a F (inl w) t =
-      let n = frames-count batch cs (w .0) (w .1) in
-      let m = frames-few batch cs (D .short) in
-      let place : a .frame .index ≡ w .0 = ap (λ (f : Frame). f .index) (w .2) ∙ n .index in
-      let whole : a .frame .count ≡ length (framesOf batch cs) = ap (λ (f : Frame). f .count) (w .2) ∙ n .count in
-      record {
-        index = omega (arith, w .1);
-        count = whole;
-        is = w .2 ∙ ap (frameAt (framesOf batch cs)) (sym place);
-        markable = record { sound = F .sound; small = omega (arith, m .1); below = omega (arith, w .1); counts = t .1; new = t .2 };
-      }
+  module _ {x : List ℕ} {xs : List Entry} (F : Follows batch es fs cs x xs) (i : ℕ) (h : i < length sent) (M : Markable x (frameAt sent i .count) (frameAt sent i .index)) where
+    place : frameAt sent i .index ≡ i
+    place = frames-count batch cs i h .index
 
-  -- its edit and its mark keep what holds
-  fresh-follows : (s : Standby) (f : Frame) → Follows batch es fs cs s → Fresh s f
-      → Follows batch es fs cs (record { inbox = marked (s .inbox) (f .count) (f .index); entries = edited f (s .entries) })
-  fresh-follows s f F N = record {
-    same = marked-batch (N .markable) ∙ F .same;
-    sound = marked-sound (N .markable);
-    words = marked-words (N .markable) (F .words);
-    counts = inr (marked-count (N .markable) ∙ N .count);
-    sorted = E .sorted;
-    done = λ i h e. done i h (marked-heard (N .markable) i .0 e);
-    between = λ k. ⊎-elim (λ p. inr p) (λ p. ⊎-elim (λ q. inl (p ∙ q)) (λ q. inr (p ∙ q)) (F .between k)) (E .moves k);
-  }
-    where
-      E : Edits fs cs (f .index) (s .entries) (edited f (s .entries))
-      E = subst (λ g. Edits fs cs (f .index) (s .entries) (edited g (s .entries))) (sym (N .is)) (frame-edits batch (find es) fs cs (D .carries) (f .index) (N .index) (s .entries) (F .sorted))
+    -- after its mark frame i is heard, and no other is that was not
+    pub frame-heard : (j : ℕ) → (heardAt (marked x (frameAt sent i .count) (frameAt sent i .index)) j ≡ true) ↔ ((j ≡ i) ⊎ (heardAt x j ≡ true))
+    frame-heard j = (λ p. ⊎-elim (λ e. inl (e ∙ place)) (λ q. inr q) (marked-heard M j .0 p), λ p. marked-heard M j .1 (⊎-elim (λ e. inl (e ∙ sym place)) (λ q. inr q) p))
 
-      done : (i : ℕ) → i < length cs → (i ≡ f .index) ⊎ (heardAt (s .inbox) i ≡ true) → find (edited f (s .entries)) (changeAt cs i .key) ≡ find fs (changeAt cs i .key)
-      done i h (inl e) = rw e (E .here (rw e at h))
-      done i h (inr e) = ⊎-elim (λ p. p) (λ p. p ∙ F .done i h e) (E .moves (changeAt cs i .key))
+    -- the edit of a frame and its mark
+    pub frame-follows : Follows batch es fs cs (marked x (frameAt sent i .count) (frameAt sent i .index)) (edited (frameAt sent i) xs)
+    frame-follows = record {
+      same = marked-batch M ∙ F .same;
+      sound = marked-sound M;
+      words = marked-words M (F .words);
+      counts = inr (marked-count M ∙ frames-count batch cs i h .count);
+      sorted = E .sorted;
+      done = λ j l p. done j l (frame-heard j .0 p);
+      between = λ k. ⊎-elim (λ p. inr p) (λ p. ⊎-elim (λ q. inl (p ∙ q)) (λ q. inr (p ∙ q)) (F .between k)) (E .moves k);
+    }
+      where
+        E : Edits fs cs i xs (edited (frameAt sent i) xs)
+        E = frame-edits batch (find es) fs cs (D .carries) i h xs (F .sorted)
 
-  -- one line, whatever it is, leaves a standby that follows
-  pub hear-follows : (s : Standby) (a : Arrival) → Expected batch (framesOf batch cs) (a .frame) → Follows batch es fs cs s → Follows batch es fs cs (hear s a)
-  unfolding hear
-  hear-follows s a w F = go (reply (s .inbox) a) refl (reply-told (s .inbox) a)
-    where
-      go : (r : Reply) → reply (s .inbox) a ≡ r → Told (s .inbox) a (reply (s .inbox) a) → Follows batch es fs cs (hear s a)
-      go (refused n) e t = rw (e, hear) F
-      go repeat e t = rw (e, hear) F
-      go new e t = rw (e, hear) (fresh-follows s (a .frame) F (fresh s a F w (rw e at t)))
+        done : (j : ℕ) → j < length cs → (j ≡ i) ⊎ (heardAt x j ≡ true) → find (edited (frameAt sent i) xs) (changeAt cs j .key) ≡ find fs (changeAt cs j .key)
+        done j l (inl e) = rw e (E .here (rw e at l))
+        done j l (inr p) = ⊎-elim (λ q. q) (λ q. q ∙ F .done j l p) (E .moves (changeAt cs j .key))
 
-  -- after one line an index is heard if it was, or if the line has it and is accepted
-  pub hear-heard : (s : Standby) (a : Arrival) → Expected batch (framesOf batch cs) (a .frame) → Follows batch es fs cs s → (i : ℕ)
-      → (heardAt (hear s a .inbox) i ≡ true) ↔ ((heardAt (s .inbox) i ≡ true) ⊎ ((a .frame .index ≡ i) × (accepted (reply (s .inbox) a) ≡ true)))
-  unfolding hear accepted
-  hear-heard s a w F i = go (reply (s .inbox) a) refl (reply-told (s .inbox) a)
-    where
-      go : (r : Reply) → reply (s .inbox) a ≡ r → Told (s .inbox) a (reply (s .inbox) a)
-          → (heardAt (hear s a .inbox) i ≡ true) ↔ ((heardAt (s .inbox) i ≡ true) ⊎ ((a .frame .index ≡ i) × (accepted (reply (s .inbox) a) ≡ true)))
-      go (refused n) e t = rw (e, hear) (inl, ⊎-elim (λ h. h) (λ p. absurd (false≢true (p .1))))
-      go repeat e t = rw (e, hear) (inl, ⊎-elim (λ h. h) (λ p. rw (← (p .0)) (rw e at t)))
-      go new e t =
-          let m = marked-heard (fresh s a F w (rw e at t) .markable) i in
-          rw (e, hear) (λ h. ⊎-elim (λ p. inr (sym p, refl)) (λ p. inl p) (m .0 h), ⊎-elim (λ h. m .1 (inr h)) (λ p. m .1 (inl (sym (p .0)))))
+  module _ {x : List ℕ} {xs : List Entry} (F : Follows batch es fs cs x xs) where
+    -- an inbox is complete exactly when every frame is heard
+    pub complete-heard : Complete x ↔ ((i : ℕ) → i < length sent → heardAt x i ≡ true)
+    complete-heard = (to, back)
+      where
+        to : Complete x → (i : ℕ) → i < length sent → heardAt x i ≡ true
+        to c i h = missing-zero x (F .sound) (F .words) .0 (c .none) i (⊎-elim (λ e. absurd (omega (arith, c .counted))) (λ e. omega arith) (F .counts))
 
-  -- and so do any number of lines
-  pub hears-follows : (lines : List Arrival) → AllExpected batch (framesOf batch cs) lines → (s : Standby) → Follows batch es fs cs s → Follows batch es fs cs (hears s lines)
-  unfolding hears AllExpected
-  hears-follows [] w s F = F
-  hears-follows (a ∷ later) w s F = hears-follows later (w .1) (hear s a) (hear-follows s a (w .0) F)
+        back : ((i : ℕ) → i < length sent → heardAt x i ≡ true) → Complete x
+        back all = go (F .counts)
+          where
+            some-frame : 0 < length sent
+            some-frame = frames-few batch cs (D .short) .0
 
-  -- an index is heard if it was, or if it has been accepted
-  pub hears-heard : (lines : List Arrival) → AllExpected batch (framesOf batch cs) lines → (s : Standby) → Follows batch es fs cs s → (i : ℕ)
-      → (heardAt (hears s lines .inbox) i ≡ true) ↔ ((heardAt (s .inbox) i ≡ true) ⊎ Accepted s lines i)
-  unfolding hears AllExpected Accepted
-  hears-heard [] w s F i = (inl, ⊎-elim (λ h. h) (λ p. absurd p))
-  hears-heard (a ∷ later) w s F i =
-      let one = hear-heard s a (w .0) F i in
-      let rest = hears-heard later (w .1) (hear s a) (hear-follows s a (w .0) F) i in (
-        λ h. ⊎-elim (λ p. ⊎-elim (λ q. inl q) (λ q. inr (inl q)) (one .0 p)) (λ p. inr (inr p)) (rest .0 h),
-        ⊎-elim (λ h. rest .1 (inl (one .1 (inl h)))) (⊎-elim (λ h. rest .1 (inl (one .1 (inr h)))) (λ h. rest .1 (inr h))),
-      )
+            go : (countOf x ≡ 0) ⊎ (countOf x ≡ length sent) → Complete x
+            go (inl e) = absurd (false≢true (sym (F .sound .clear 0 (omega arith) (omega arith)) ∙ all 0 some-frame))
+            go (inr e) = record { counted = omega (arith, some-frame); none = missing-zero x (F .sound) (F .words) .1 (λ i h. all i (omega arith)) }
 
-  -- an inbox is complete exactly when every frame is heard
-  pub complete-heard : (s : Standby) → Follows batch es fs cs s → Complete (s .inbox) ↔ ((i : ℕ) → i < length (framesOf batch cs) → heardAt (s .inbox) i ≡ true)
-  complete-heard s F = (to, back)
-    where
-      to : Complete (s .inbox) → (i : ℕ) → i < length (framesOf batch cs) → heardAt (s .inbox) i ≡ true
-      to c i h = missing-zero (s .inbox) (F .sound) (F .words) .0 (c .none) i (⊎-elim (λ e. absurd (omega (arith, c .counted))) (λ e. omega arith) (F .counts))
-
-      back : ((i : ℕ) → i < length (framesOf batch cs) → heardAt (s .inbox) i ≡ true) → Complete (s .inbox)
-      back all = go (F .counts)
-        where
-          some-frame : 0 < length (framesOf batch cs)
-          some-frame = frames-few batch cs (D .short) .0
-
-          go : (countOf (s .inbox) ≡ 0) ⊎ (countOf (s .inbox) ≡ length (framesOf batch cs)) → Complete (s .inbox)
-          go (inl e) = absurd (false≢true (sym (F .sound .clear 0 (omega arith) (omega arith)) ∙ all 0 some-frame))
-          go (inr e) = record { counted = omega (arith, some-frame); none = missing-zero (s .inbox) (F .sound) (F .words) .1 (λ i h. all i (omega arith)) }
-
-  -- a complete standby holds the entries fs
-  pub complete-entries : (s : Standby) → Follows batch es fs cs s → Complete (s .inbox) → s .entries ≡ fs
-  complete-entries s F c = sorted-ext (s .entries) fs (F .sorted) (D .after) (λ k. go k (D .carries .whole k))
-    where
-      go : (k : ℕ) → (find es k ≡ find fs k) ⊎ ((i : ℕ) × (i < length cs) × (changeAt cs i .key ≡ k)) → find (s .entries) k ≡ find fs k
-      go k (inl e) = ⊎-elim (λ p. p ∙ e) (λ p. p) (F .between k)
-      go k (inr w) =
-          let h = complete-heard s F .0 c (w .0) (rw (frames-length batch cs (omega (arith, w .1))) (w .1)) in
-          ap (find (s .entries)) (sym (w .2)) ∙ F .done (w .0) (w .1) h ∙ ap (find fs) (w .2)
-
--- the frames of a delta in any order, any number of times, lost, refused for room or among lines of other batches
-pub replica : {batch : ℕ} {es fs : List Entry} {cs : List Change} → Sending batch es fs cs
-    → (lines : List Arrival) → AllExpected batch (framesOf batch cs) lines → Replica batch es fs cs lines (hears (started batch es) lines)
-replica {batch} {es} {fs} {cs} D lines w = record {
-  exactly = (λ c i h. accepted-then i (C .0 c i h), λ all. C .1 (λ i h. heard i .1 (inr (all i h))));
-  whole = complete-entries D (hears (started batch es) lines) F;
-  between = F .between;
-  sorted = F .sorted;
-  sound = F .sound;
-}
-  where
-    F : Follows batch es fs cs (hears (started batch es) lines)
-    F = hears-follows D lines w (started batch es) (start-follows D)
-
-    C : Complete (hears (started batch es) lines .inbox) ↔ ((i : ℕ) → i < length (framesOf batch cs) → heardAt (hears (started batch es) lines .inbox) i ≡ true)
-    C = complete-heard D (hears (started batch es) lines) F
-
-    heard : (i : ℕ) → (heardAt (hears (started batch es) lines .inbox) i ≡ true) ↔ ((heardAt (begun batch) i ≡ true) ⊎ Accepted (started batch es) lines i)
-    heard i = hears-heard D lines w (started batch es) (start-follows D) i
-
-    accepted-then : (i : ℕ) → heardAt (hears (started batch es) lines .inbox) i ≡ true → Accepted (started batch es) lines i
-    accepted-then i h = ⊎-elim (λ p. absurd (false≢true (sym (begun-heard batch i) ∙ p))) (λ p. p) (heard i .0 h)
+    -- where it is complete the entries are fs
+    pub complete-entries : Complete x → xs ≡ fs
+    complete-entries c = sorted-ext xs fs (F .sorted) (D .after) (λ k. go k (D .carries .whole k))
+      where
+        go : (k : ℕ) → (find es k ≡ find fs k) ⊎ ((i : ℕ) × (i < length cs) × (changeAt cs i .key ≡ k)) → find xs k ≡ find fs k
+        go k (inl e) = ⊎-elim (λ p. p ∙ e) (λ p. p) (F .between k)
+        go k (inr w) =
+            let h = complete-heard .0 c (w .0) (rw (frames-length batch cs (omega (arith, w .1))) (w .1)) in
+            ap (find xs) (sym (w .2)) ∙ F .done (w .0) (w .1) h ∙ ap (find fs) (w .2)

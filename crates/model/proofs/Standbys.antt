@@ -1,104 +1,158 @@
--- Demand 3 of the call receive, on blocks and inboxes: a standby keeps to the model's replica line by line, so it is complete, and equal, exactly as that is.
-use mathlib.Core.Path.{_≡_, refl, ap, sym, subst, _∙_}
-use mathlib.Core.Logic.{_≢_, _⊎_, inl, inr, ⊎-elim, _↔_}
+-- Demand 3: a standby that hears lines follows their batch line by line, so it is complete, and equal, exactly when every frame has been accepted.
+use mathlib.Core.Path.{_≡_, ap, sym, subst, _∙_}
+use mathlib.Core.Logic.{_⊎_, inl, inr, ⊎-elim, _↔_}
 use Prim.Native.Nat.{ℕ, _^_, _<_}
 use mathlib.Core.Bool.{true, false, true≢false}
-use mathlib.Core.Option.{Option, none, some}
+use mathlib.Core.Option.{some}
 use mathlib.Core.List.{List}
+use lib.ListN.{length}
 use native.Mathlib.Omega.{arith}
 use Rattle.model.specs.Tree.{Entry, entries}
 use Rattle.model.specs.Delta.{Change, delta, deltaDeep}
-use Rattle.model.specs.Heap.{version}
+use Rattle.model.specs.Heap.{version, supply}
 use Rattle.model.specs.Block.{heap, SoundBlock}
-use Rattle.model.specs.Frame.{Frame, parse, framesOf, frames}
-use Rattle.model.specs.Inbox.{heardAt, begun}
-use Rattle.model.specs.Replica.{Standby, reply, accepted, Sending}
-use Rattle.model.specs.Link.{Step, Hearing, still, then, AcceptedIn, Sent, Replicated}
-use Rattle.model.proofs.Heard.{begun-heard}
-use Rattle.model.proofs.Replicas.{Follows, start-follows, hear-follows, hear-heard, complete-heard, complete-entries}
-use Rattle.model.proofs.Receiving.{standby, Hears, receive-hears, receive-malformed}
-use Rattle.model.proofs.Demand.{versions-sent}
+use Rattle.model.specs.Frame.{Frame, parse, framesOf, frameAt, frames}
+use Rattle.model.specs.Inbox.{heardAt, begun, marked}
+use Rattle.model.specs.Link.{Missing, Step, Receive}
+use Rattle.model.specs.Replica.{Elsewhere, Hearing, still, then, Each, Some, Took, Genuine, Heeded, Replicated}
+use Rattle.model.proofs.Sorts.{ordered-sorted}
+use Rattle.model.proofs.Versions.{version-ordered}
+use Rattle.model.proofs.Listings.{versions-one-heap}
+use Rattle.model.proofs.Deltas.{delta-carries}
+use Rattle.model.proofs.DeltaRoom.{delta-room}
+use Rattle.model.proofs.Frames.{frames-count}
+use Rattle.model.proofs.Heard.{Markable, begun-heard}
+use Rattle.model.proofs.Replicas.{edited, Sending, Follows, frame-entries, start-follows, counts-agree, frame-heard, frame-follows, complete-heard, complete-entries}
+use Rattle.model.proofs.Receiving.{Outcome, away, again, new, receive-outcome, receive-others, receive-reports, belongs-only-room, line-markable, missing-complete, missing-answers}
 
 module _ {batch : ℕ} {es fs : List Entry} {cs : List Change} (D : Sending batch es fs cs) (v : ℕ) (lt : v < 16) where
+  abbrev sent : List Frame
+  sent = framesOf batch cs
+
+  -- the block b and the inbox x follow the batch
+  abbrev Following : (b x : List ℕ) → Type 0
+  Following b x = Follows batch es fs cs x (entries (version (heap b) v))
+
+  -- one line
+  record Stepped (s : Step) (line : List ℕ) : Type 0 where
+    follows : Following (s .block′) (s .inbox′)
+    sound : SoundBlock (s .block′)
+    heard : (i : ℕ) → i < length sent → (heardAt (s .inbox′) i ≡ true) ↔ ((heardAt (s .inbox) i ≡ true) ⊎ Took sent i s line)
+
+  module _ (s : Step) (line : List ℕ) (B : SoundBlock (s .block)) (F : Following (s .block) (s .inbox)) (R : Receive s v line) (G : Genuine sent s line) where
+    kept : s .block′ ≡ s .block → s .inbox′ ≡ s .inbox → ((i : ℕ) → i < length sent → Took sent i s line → heardAt (s .inbox) i ≡ true) → Stepped s line
+    kept b x told = record {
+      follows = rw (b, x) F;
+      sound = subst SoundBlock (sym b) B;
+      heard = λ i l. (λ h. inl (subst (λ z. heardAt z i ≡ true) x h), λ h. subst (λ z. heardAt z i ≡ true) (sym x) (⊎-elim (λ p. p) (told i l) h));
+    }
+
+    same-frame : (f g : Frame) → parse line ≡ some f → parse line ≡ some g → f ≡ g
+    same-frame f g e d = cc (sym e ∙ d)
+
+    step : Outcome s v (parse line) → Stepped s line
+    step (away n b x) = kept b x (λ i l t. absurd (n (t .0)))
+    step (again f e W h a b x) = kept b x (λ i l t. subst (λ j. heardAt (s .inbox) j ≡ true) (ap (λ (g : Frame). g .index) (same-frame f (frameAt sent i) e (t .1)) ∙ frames-count batch cs i l .index) h)
+    step (new f e W h a E x) = go (G (a .number))
+      where
+        go : (i : ℕ) × (i < length sent) × (parse line ≡ some (frameAt sent i)) → Stepped s line
+        go (i, l, d) = record {
+          follows = rw (inbox, held) (frame-follows D F i l M);
+          sound = E .sound;
+          heard = λ j m. (
+            (λ q. ⊎-elim (λ k. inr (a .number, rw k d)) (λ k. inl k) (frame-heard D F i l M j .0 (rw inbox at q))),
+            (λ q. rw inbox (frame-heard D F i l M j .1 (⊎-elim (λ k. inr k) (λ k. inl (there j m k)) q))),
+          );
+        }
+          where
+            p : f ≡ frameAt sent i
+            p = same-frame f (frameAt sent i) e d
+
+            M : Markable (s .inbox) (frameAt sent i .count) (frameAt sent i .index)
+            M = subst (λ (g : Frame). Markable (s .inbox) (g .count) (g .index)) p (line-markable line f (F .sound) e W h)
+
+            inbox : s .inbox′ ≡ marked (s .inbox) (frameAt sent i .count) (frameAt sent i .index)
+            inbox = x ∙ ap (λ (g : Frame). marked (s .inbox) (g .count) (g .index)) p
+
+            held : entries (version (heap (s .block′)) v) ≡ edited (frameAt sent i) (entries (version (heap (s .block)) v))
+            held =
+                ap entries (E .here) ∙ frame-entries f (version (heap (s .block)) v) (supply (heap (s .block))) (version-ordered (B .sound) v lt)
+                ∙ ap (λ (g : Frame). edited g (entries (version (heap (s .block)) v))) p
+
+            there : (j : ℕ) → j < length sent → Took sent j s line → j ≡ i
+            there j m t =
+                sym (frames-count batch cs j m .index) ∙ ap (λ (g : Frame). g .index) (same-frame (frameAt sent j) (frameAt sent i) (t .1) d) ∙ frames-count batch cs i l .index
+
+    stepped : Stepped s line
+    stepped = step (receive-outcome s v line R)
+
+    heeded : Heeded sent v s line
+    heeded = record {
+      reports = receive-reports s v line (F .sound) R;
+      only-room = λ w. belongs-only-room s v line (frameAt sent (w .0)) B (F .sound) lt R (w .2)
+          (record { batch = frames-count batch cs (w .0) (w .1) .batch ∙ sym (F .same); counts = counts-agree D F (w .0) (w .1) });
+      others = receive-others s v line R;
+    }
+
   -- lines heard from b and x to c and y
-  record Kept (b x : List ℕ) {lines : List (List ℕ)} {c y : List ℕ} (run : Hearing v b x lines c y) : Type 0 where
-    follows : Follows batch es fs cs (standby c y v)
+  record Kept (x : List ℕ) {b : List ℕ} {lines : List (List ℕ)} {c y : List ℕ} (run : Hearing (Elsewhere v) v b x lines c y) : Type 0 where
+    follows : Following c y
     sound : SoundBlock c
-    others : (w : ℕ) → w < 16 → w ≢ v → version (heap c) w ≡ version (heap b) w
-    heard : (i : ℕ) → (heardAt y i ≡ true) ↔ ((heardAt x i ≡ true) ⊎ AcceptedIn run i)
+    answers : Each (Heeded sent v) run
+    heard : (i : ℕ) → i < length sent → (heardAt y i ≡ true) ↔ ((heardAt x i ≡ true) ⊎ Some (Took sent i) run)
 
-  kept-run : {b x : List ℕ} {lines : List (List ℕ)} {c y : List ℕ} (run : Hearing v b x lines c y) → SoundBlock b → Follows batch es fs cs (standby b x v) → Sent batch (framesOf batch cs) lines → Kept b x run
-  unfolding Sent AcceptedIn
-  kept-run still B F S = record { follows = F; sound = B; others = λ w l ne. refl; heard = λ i. ((λ h. inl h), (λ h. ⊎-elim (λ p. p) (λ p. absurd p) h)) }
-  kept-run (then {b = b} {x = x} {b′ = b′} {x′ = x′} {line = line} answer R later) B F S = go (parse line) refl (λ B′ F′. kept-run later B′ F′ (S .1))
-    where
-      s : Step
-      s = record { block = b; inbox = x; block′ = b′; inbox′ = x′; answer = answer }
+  kept-run : {b x : List ℕ} {lines : List (List ℕ)} {c y : List ℕ} (run : Hearing (Elsewhere v) v b x lines c y) → SoundBlock b → Following b x → Each (Genuine sent) run → Kept x run
+  unfolding Each Some
+  kept-run still B F G = record { follows = F; sound = B; answers = tt; heard = λ i l. ((λ h. inl h), (λ h. ⊎-elim (λ p. p) (λ p. absurd p) h)) }
+  kept-run (then {x = x} {a = a} {b′ = b′} {x′ = x′} {line = line} answer H R later) B F G =
+      let s : Step = record { block = a; inbox = x; block′ = b′; inbox′ = x′; answer = answer } in
+      let A : SoundBlock a = H .sound B in
+      let E : Following a x = rw (H .same) F in
+      let S = stepped s line A E R (G .0) in
+      let K = kept-run later (S .sound) (S .follows) (G .1) in
+      record {
+        follows = K .follows;
+        sound = K .sound;
+        answers = (heeded s line A E R (G .0), K .answers);
+        heard = λ i l. (
+          (λ h. ⊎-elim (λ p. ⊎-elim (λ q. inl q) (λ q. inr (inl q)) (S .heard i l .0 p)) (λ p. inr (inr p)) (K .heard i l .0 h)),
+          (λ h. K .heard i l .1 (⊎-elim (λ p. inl (S .heard i l .1 (inl p))) (λ p. ⊎-elim (λ q. inl (S .heard i l .1 (inr q))) (λ q. inr q) p) h)),
+        );
+      }
 
-      Told : ℕ → Type 0
-      Told i = ((f : Frame) × (parse line ≡ some f) × (f .index ≡ i)) × (answer .number ≡ 0)
+-- the delta of two versions is what a batch may send
+versions-sent : {b : List ℕ} → SoundBlock b → (A B batch : ℕ) → A < 16 → B < 16 → batch < 2 ^ 32 → deltaDeep (version (heap b) A) (version (heap b) B) ≡ false
+    → Sending batch (entries (version (heap b) A)) (entries (version (heap b) B)) (delta (version (heap b) A) (version (heap b) B))
+versions-sent {b} P A B batch la lb fits shallow = record {
+  number = fits;
+  short = omega (arith, delta-room (heap b) (P .sound) A B la lb shallow, P .shaped .most);
+  before = ordered-sorted (version (heap b) A) (version-ordered (P .sound) A la);
+  after = ordered-sorted (version (heap b) B) (version-ordered (P .sound) B lb);
+  carries = delta-carries (version (heap b) A) (version (heap b) B) (versions-one-heap (heap b) (P .sound) A B la lb) shallow;
+}
 
-      go : (o : Option Frame) → parse line ≡ o → (SoundBlock b′ → Follows batch es fs cs (standby b′ x′ v) → Kept b′ x′ later) → Kept b x (then answer R later)
-      go none e ih =
-          let u = receive-malformed s v line B (F .sound) lt R e in
-          let K = ih (subst SoundBlock (sym (u .1)) B) (rw (u .1, u .2) F) in
-          record {
-            follows = K .follows;
-            sound = K .sound;
-            others = λ w l ne. K .others w l ne ∙ ap (λ z. version (heap z) w) (u .1);
-            heard = λ i. (
-              (λ h. ⊎-elim (λ p. inl (subst (λ z. heardAt z i ≡ true) (u .2) p)) (λ p. inr (inr p)) (K .heard i .0 h)),
-              (λ h. K .heard i .1 (⊎-elim (λ p. inl (subst (λ z. heardAt z i ≡ true) (sym (u .2)) p)) (λ p. ⊎-elim (λ q. absurd (never i q)) (λ q. inr q) p) h)),
-            );
-          }
-        where
-          never : (i : ℕ) → Told i → ⊥
-          never i q = let z : _≡_ {A = ℕ} 0 1 = cc (sym e ∙ q .0 .1) in omega arith
-      go (some f) e ih =
-          let K = ih (H .sound) (subst (Follows batch es fs cs) (H .is) (hear-follows D (standby b x v) (record { frame = f; room = H .room }) (S .0 f e) F)) in
-          record {
-            follows = K .follows;
-            sound = K .sound;
-            others = λ w l ne. K .others w l ne ∙ H .others w l ne;
-            heard = λ i. (
-              (λ h. ⊎-elim (λ p. ⊎-elim (λ q. inl q) (λ q. inr (inl ((f, e, q .0), H .told .0 (q .1)))) (step i .0 p)) (λ p. inr (inr p)) (K .heard i .0 h)),
-              (λ h. K .heard i .1 (⊎-elim (λ p. inl (step i .1 (inl p))) (λ p. ⊎-elim (λ q. inl (step i .1 (inr (index i q, H .told .1 (q .1))))) (λ q. inr q) p) h)),
-            );
-          }
-        where
-          H : Hears s v f
-          H = receive-hears s v line f B (F .sound) lt R e
-
-          Taken : ℕ → Type 0
-          Taken i = (f .index ≡ i) × (accepted (reply x (record { frame = f; room = H .room })) ≡ true)
-
-          step : (i : ℕ) → (heardAt x′ i ≡ true) ↔ ((heardAt x i ≡ true) ⊎ Taken i)
-          step i = subst (λ (z : Standby). (heardAt (z .inbox) i ≡ true) ↔ ((heardAt x i ≡ true) ⊎ Taken i)) (H .is) (hear-heard D (standby b x v) (record { frame = f; room = H .room }) (S .0 f e) F i)
-
-          index : (i : ℕ) → Told i → f .index ≡ i
-          index i q = let p : f ≡ q .0 .0 = cc (sym e ∙ q .0 .1) in ap (λ (g : Frame). g .index) p ∙ q .0 .2
-
--- A replica that holds A's entries in version v and hears the frames that carry A to B, in any order, repeated or lost, with foreign and damaged lines among them
--- and edits that found no room: it reports complete exactly when each frame has been accepted at least once; its entries then equal B's exactly; until then every key
--- stands as in A or as in B; no other version changes.
+-- A standby that holds A's entries in version v and hears lines, of which those that it answers with 0 are frames that carry A to B: in any order, repeated or lost, with foreign and
+-- damaged lines among them, edits that found no room, and its host at work on other versions between them. It is complete, and reports so, exactly when each frame has been accepted
+-- at least once; its entries then equal B's exactly; until then every key stands as in A or as in B.
 pub standby-replicates : (primary : List ℕ) → SoundBlock primary → (A B batch : ℕ) → A < 16 → B < 16 → batch < 2 ^ 32 → deltaDeep (version (heap primary) A) (version (heap primary) B) ≡ false
     → (b : List ℕ) → SoundBlock b → (v : ℕ) → v < 16 → entries (version (heap b) v) ≡ entries (version (heap primary) A)
-    → {lines : List (List ℕ)} {c y : List ℕ} (run : Hearing v b (begun batch) lines c y) → Sent batch (frames batch (version (heap primary) A) (version (heap primary) B)) lines
-    → Replicated (version (heap primary) A) (version (heap primary) B) batch v b run
-standby-replicates primary P A B batch la lb fits shallow b S v lt holds {c = c} {y = y} run sent = record {
+    → {lines : List (List ℕ)} {c y : List ℕ} (run : Hearing (Elsewhere v) v b (begun batch) lines c y) → Each (Genuine (frames batch (version (heap primary) A) (version (heap primary) B))) run
+    → Replicated (version (heap primary) A) (version (heap primary) B) batch v run
+standby-replicates primary P A B batch la lb fits shallow b S v lt holds {y = y} run genuine = record {
   complete = (
-    (λ k i l. ⊎-elim (λ p. absurd (true≢false (sym p ∙ begun-heard batch i))) (λ p. p) (K .heard i .0 (complete-heard D (standby c y v) (K .follows) .0 k i l))),
-    (λ all. complete-heard D (standby c y v) (K .follows) .1 (λ i l. K .heard i .1 (inr (all i l)))),
+    (λ k i l. ⊎-elim (λ p. absurd (true≢false (sym p ∙ begun-heard batch i))) (λ p. p) (K .heard i l .0 (complete-heard D (K .follows) .0 k i l))),
+    (λ all. complete-heard D (K .follows) .1 (λ i l. K .heard i l .1 (inr (all i l)))),
   );
-  equal = complete-entries D (standby c y v) (K .follows);
+  reports = λ n m M. let z = missing-answers y n m (K .follows .sound) M in (z, missing-complete y m (subst (λ (k : ℕ). Missing y k m) z M));
+  equal = complete-entries D (K .follows);
   between = K .follows .between;
-  others = K .others;
+  answers = K .answers;
   sound-block = K .sound;
   sound-inbox = K .follows .sound;
 }
   where
     D : Sending batch (entries (version (heap primary) A)) (entries (version (heap primary) B)) (delta (version (heap primary) A) (version (heap primary) B))
-    D = versions-sent (heap primary) (P .sound) (P .shaped .most) A B batch la lb fits shallow
+    D = versions-sent P A B batch la lb fits shallow
 
-    K : Kept D v lt b (begun batch) run
-    K = kept-run D v lt run S (rw holds (start-follows D)) sent
+    K : Kept D v lt (begun batch) run
+    K = kept-run D v lt run S (rw holds (start-follows D)) genuine

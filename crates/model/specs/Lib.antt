@@ -10,8 +10,8 @@ pub mod Numbers
 pub mod Tells
 pub mod Frame
 pub mod Inbox
-pub mod Replica
 pub mod Moves
 pub mod Calls
 pub mod Lists
 pub mod Link
+pub mod Replica

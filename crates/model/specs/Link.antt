@@ -1,20 +1,19 @@
 -- What the calls of the link answer: parse, begin, receive and the missing question.
 use mathlib.Core.Path.{_≡_}
-use mathlib.Core.Logic.{_≢_, _⊎_, _↔_}
+use mathlib.Core.Logic.{_⊎_}
 use Prim.Native.Nat.{ℕ, zero, suc, _<_}
 use mathlib.Core.Bool.{Bool, true, false}
 use mathlib.Core.Option.{Option, none, some}
-use mathlib.Core.List.{List, [], _∷_}
+use mathlib.Core.List.{List}
 use lib.ListN.{length}
-use Rattle.model.specs.Tree.{Tree, entries, find}
+use Rattle.model.specs.Tree.{Tree}
 use Rattle.model.specs.Supply.{Make, done, short}
 use Rattle.model.specs.Rules.{insert, remove}
 use Rattle.model.specs.Heap.{version, supply}
 use Rattle.model.specs.Block.{heap, Shaped, SoundBlock}
-use Rattle.model.specs.Frame.{Frame, parse, frames}
-use Rattle.model.specs.Inbox.{batchOf, countOf, heardAt, SoundInbox, begun, marked, missing, question, Complete}
+use Rattle.model.specs.Frame.{Frame, parse}
+use Rattle.model.specs.Inbox.{batchOf, countOf, heardAt, SoundInbox, begun, marked, missing, question}
 use Rattle.model.specs.Numbers.{SHAPE, DAMAGED, VERSION, NO_ROOM, FRAME, BATCH, COUNT}
-use Rattle.model.specs.Replica.{Expected}
 use Rattle.model.specs.Calls.{Check, Edited}
 
 -- parse gives FRAME, or the six fields
@@ -88,33 +87,3 @@ Receive s v line =
     (Check (SoundBlock (s .block)) (turnedAway s DAMAGED)
     (Check (SoundInbox (s .inbox)) (turnedAway s DAMAGED)
     (Check (v < 16) (turnedAway s VERSION) (Says s v (parse line))))))
-
--- Lines one after another.
-
--- what a standby has after hearing lines: its block and its inbox
-pub data Hearing (v : ℕ) : (block inbox : List ℕ) → List (List ℕ) → (block′ inbox′ : List ℕ) → Type 0 where
-  still : {b x : List ℕ} → Hearing v b x [] b x
-  then : {b x b′ x′ c y : List ℕ} {line : List ℕ} {lines : List (List ℕ)} (answer : Heard) → Receive (record { block = b; inbox = x; block′ = b′; inbox′ = x′; answer = answer }) v line → Hearing v b′ x′ lines c y → Hearing v b x (line ∷ lines) c y
-
--- frame i has been accepted at least once: some line that says it was answered 0
-unfoldable pub AcceptedIn : {v : ℕ} {b x : List ℕ} {lines : List (List ℕ)} {c y : List ℕ} → Hearing v b x lines c y → ℕ → Type 0
-AcceptedIn still i = ⊥
-AcceptedIn (then {line = line} answer r later) i = (((f : Frame) × (parse line ≡ some f) × (f .index ≡ i)) × (answer .number ≡ 0)) ⊎ AcceptedIn later i
-
--- each line is malformed, of another batch, or one of the frames
-unfoldable pub Sent : (batch : ℕ) → List Frame → List (List ℕ) → Type 0
-Sent batch fs [] = Unit {0}
-Sent batch fs (line ∷ lines) = ((f : Frame) → parse line ≡ some f → Expected batch fs f) × Sent batch fs lines
-
--- Demand 3. A standby that held A's entries in version v of its block b, began the batch and heard these lines has come to the block c and the inbox y.
-pub record Replicated (A B : Tree) (batch v : ℕ) (b : List ℕ) {lines : List (List ℕ)} {c y : List ℕ} (run : Hearing v b (begun batch) lines c y) : Type 0 where
-  -- it reports complete exactly when each frame has been accepted at least once
-  pub complete : Complete y ↔ ((i : ℕ) → i < length (frames batch A B) → AcceptedIn run i)
-  -- its entries then equal B's exactly
-  pub equal : Complete y → entries (version (heap c) v) ≡ entries B
-  -- and until then every key stands as in A or as in B
-  pub between : (k : ℕ) → (find (entries (version (heap c) v)) k ≡ find (entries A) k) ⊎ (find (entries (version (heap c) v)) k ≡ find (entries B) k)
-  -- no other version changes, and block and inbox stay sound
-  pub others : (w : ℕ) → w < 16 → w ≢ v → version (heap c) w ≡ version (heap b) w
-  pub sound-block : SoundBlock c
-  pub sound-inbox : SoundInbox y

@@ -1,106 +1,76 @@
--- A standby that hears the frames of a batch.
+-- Demand 3: a standby that hears the lines of a batch, one after another.
 use mathlib.Core.Path.{_≡_}
 use mathlib.Core.Logic.{_≢_, _⊎_, _↔_}
-use Prim.Native.Nat.{ℕ, zero, suc, _^_, _≤_, _<_}
-use mathlib.Core.Bool.{Bool, true, false, _||_}
+use Prim.Native.Nat.{ℕ, _<_}
+use mathlib.Core.Option.{some}
 use mathlib.Core.List.{List, [], _∷_}
 use lib.ListN.{length}
-use lib.Dec.{eqb}
-use Rattle.model.specs.Tree.{Entry, find, put, without, Sorted}
-use Rattle.model.specs.Delta.{Change, Carries}
-use Rattle.model.specs.Frame.{Frame, framesOf, frameAt}
-use Rattle.model.specs.Inbox.{batchOf, countOf, heardAt, SoundInbox, begun, marked, Complete}
-use Rattle.model.specs.Numbers.{NO_ROOM, BATCH, COUNT}
+use Rattle.model.specs.Tree.{Tree, entries, find}
+use Rattle.model.specs.Heap.{version}
+use Rattle.model.specs.Block.{heap, SoundBlock}
+use Rattle.model.specs.Frame.{Frame, parse, frames, frameAt}
+use Rattle.model.specs.Inbox.{SoundInbox, begun, Complete}
+use Rattle.model.specs.Numbers.{NO_ROOM}
+use Rattle.model.specs.Link.{Missing, Heard, Step, Receive}
 
--- its inbox, and the entries of the version that it edits
-pub record Standby : Type 0 where
-  pub inbox : List ℕ
-  pub entries : List Entry
+-- nothing is done between two lines
+abbrev pub Nothing : (b b′ : List ℕ) → Type 0
+Nothing b b′ = b′ ≡ b
 
--- a well-formed line reaches it; its edit finds room, or does not
-pub record Arrival : Type 0 where
-  pub frame : Frame
-  pub room : Bool
+-- anything is done there that keeps the block sound and the entries of version v
+pub record Elsewhere (v : ℕ) (b b′ : List ℕ) : Type 0 where
+  pub sound : SoundBlock b → SoundBlock b′
+  pub same : entries (version (heap b′) v) ≡ entries (version (heap b) v)
 
--- what it answers
-pub data Reply : Type 0 where
-  refused : ℕ → Reply
-  repeat : Reply
-  new : Reply
+-- what a standby has after hearing lines: its block and its inbox. Before each line its host does what it may.
+pub data Hearing (host : List ℕ → List ℕ → Type 0) (v : ℕ) : (block inbox : List ℕ) → List (List ℕ) → (block′ inbox′ : List ℕ) → Type 0 where
+  still : {b x : List ℕ} → Hearing host v b x [] b x
+  then : {b x a b′ x′ c y : List ℕ} {line : List ℕ} {lines : List (List ℕ)} (answer : Heard) → host b a → Receive (record { block = a; inbox = x; block′ = b′; inbox′ = x′; answer = answer }) v line
+      → Hearing host v b′ x′ lines c y → Hearing host v b x (line ∷ lines) c y
 
--- another batch number; count not zero and unlike the frame's; heard already; no room; else accepted as new
-unfoldable pub reply : List ℕ → Arrival → Reply
-reply x a = elim (eqb (a .frame .batch) (batchOf x)) [
-  | false ↦ refused BATCH
-  | true ↦ elim (eqb (countOf x) 0 || eqb (countOf x) (a .frame .count)) [
-    | false ↦ refused COUNT
-    | true ↦ elim (heardAt x (a .frame .index)) [
-      | true ↦ repeat
-      | false ↦ elim (a .room) [ true ↦ new | false ↦ refused NO_ROOM ]
-    ]
-  ]
-]
+-- P of each line, and of one at least
+module _ (P : Step → List ℕ → Type 0) where
+  unfoldable pub Each : {host : List ℕ → List ℕ → Type 0} {v : ℕ} {b x : List ℕ} {lines : List (List ℕ)} {c y : List ℕ} → Hearing host v b x lines c y → Type 0
+  Each still = Unit {0}
+  Each (then {x = x} {a = a} {b′ = b′} {x′ = x′} {line = line} answer h r later) = P (record { block = a; inbox = x; block′ = b′; inbox′ = x′; answer = answer }) line × Each later
 
--- the edit of a frame
-unfoldable pub edited : Frame → List Entry → List Entry
-edited f es = elim (f .kind) [
-  | zero ↦ es
-  | suc k ↦ elim k [ zero ↦ put es (f .key) (f .value) | suc j ↦ without es (f .key) ]
-]
+  unfoldable pub Some : {host : List ℕ → List ℕ → Type 0} {v : ℕ} {b x : List ℕ} {lines : List (List ℕ)} {c y : List ℕ} → Hearing host v b x lines c y → Type 0
+  Some still = ⊥
+  Some (then {x = x} {a = a} {b′ = b′} {x′ = x′} {line = line} answer h r later) = P (record { block = a; inbox = x; block′ = b′; inbox′ = x′; answer = answer }) line ⊎ Some later
 
--- only a new line changes anything: it does its edit and is marked
-unfoldable pub hear : Standby → Arrival → Standby
-hear s a = elim (reply (s .inbox) a) [
-  | refused n ↦ s
-  | repeat ↦ s
-  | new ↦ record { inbox = marked (s .inbox) (a .frame .count) (a .frame .index); entries = edited (a .frame) (s .entries) }
-]
+-- the line says one of the frames
+abbrev pub OneOf : List Frame → List ℕ → Type 0
+OneOf fs line = (i : ℕ) × (i < length fs) × (parse line ≡ some (frameAt fs i))
 
--- lines one after another
-unfoldable pub hears : Standby → List Arrival → Standby
-hears s [] = s
-hears s (a ∷ later) = hears (hear s a) later
+-- the line was answered 0 and says frame i
+abbrev pub Took : List Frame → ℕ → Step → List ℕ → Type 0
+Took fs i s line = (s .answer .number ≡ 0) × (parse line ≡ some (frameAt fs i))
 
--- new or repeat
-unfoldable pub accepted : Reply → Bool
-accepted (refused n) = false
-accepted repeat = true
-accepted new = true
+-- a line that is answered 0 says one of the frames; all that is refused may say anything
+abbrev pub Genuine : List Frame → Step → List ℕ → Type 0
+Genuine fs s line = s .answer .number ≡ 0 → OneOf fs line
 
--- index i has been accepted at least once
-unfoldable pub Accepted : Standby → List Arrival → ℕ → Type 0
-Accepted s [] i = ⊥
-Accepted s (a ∷ later) i = ((a .frame .index ≡ i) × (accepted (reply (s .inbox) a) ≡ true)) ⊎ Accepted (hear s a) later i
+-- what the answer to a line says
+pub record Heeded (fs : List Frame) (v : ℕ) (s : Step) (line : List ℕ) : Type 0 where
+  -- answered 0, it has as missing what the question on its own would then answer
+  pub reports : s .answer .number ≡ 0 → Missing (s .inbox′) 0 (s .answer .missing)
+  -- one of the frames is refused only for room
+  pub only-room : OneOf fs line → (s .answer .number ≡ 0) ⊎ (s .answer .number ≡ NO_ROOM)
+  -- no other version changes
+  pub others : (w : ℕ) → w < 16 → w ≢ v → version (heap (s .block′)) w ≡ version (heap (s .block)) w
 
--- begun with a batch, its entries as they are
-abbrev pub started : ℕ → List Entry → Standby
-started batch es = record { inbox = begun batch; entries = es }
-
--- one of the frames sent, or a frame of another batch
-abbrev pub Expected : ℕ → List Frame → Frame → Type 0
-Expected batch sent f = ((i : ℕ) × (i < length sent) × (f ≡ frameAt sent i)) ⊎ (f .batch ≢ batch)
-
--- each line that arrives is such a frame
-unfoldable pub AllExpected : ℕ → List Frame → List Arrival → Type 0
-AllExpected batch sent [] = Unit {0}
-AllExpected batch sent (a ∷ later) = Expected batch sent (a .frame) × AllExpected batch sent later
-
--- the changes carry the entries es to fs, and are as many as a batch may hold
-pub record Sending (batch : ℕ) (es fs : List Entry) (cs : List Change) : Type 0 where
-  pub number : batch < 2 ^ 32
-  pub short : length cs ≤ 4096
-  pub before : Sorted es
-  pub after : Sorted fs
-  pub carries : Carries (find es) (find fs) cs
-
--- what a standby comes to that hears these lines from the start
-pub record Replica (batch : ℕ) (es fs : List Entry) (cs : List Change) (lines : List Arrival) (s : Standby) : Type 0 where
-  -- it is complete exactly when every frame has been accepted at least once
-  pub exactly : Complete (s .inbox) ↔ ((i : ℕ) → i < length (framesOf batch cs) → Accepted (started batch es) lines i)
-  -- once complete it holds fs
-  pub whole : Complete (s .inbox) → s .entries ≡ fs
-  -- at every moment each key is as in es or as in fs
-  pub between : (k : ℕ) → (find (s .entries) k ≡ find es k) ⊎ (find (s .entries) k ≡ find fs k)
-  -- its entries ascend and its inbox is sound
-  pub sorted : Sorted (s .entries)
-  pub sound : SoundInbox (s .inbox)
+-- A standby that held A's entries in version v of its block b, began the batch and heard these lines has come to the block c and the inbox y.
+pub record Replicated (A B : Tree) (batch v : ℕ) {b : List ℕ} {lines : List (List ℕ)} {c y : List ℕ} (run : Hearing (Elsewhere v) v b (begun batch) lines c y) : Type 0 where
+  -- it is complete exactly when each frame has been accepted at least once
+  pub complete : Complete y ↔ ((i : ℕ) → i < length (frames batch A B) → Some (Took (frames batch A B) i) run)
+  -- and it reports so: the missing question then, and only then, answers 0
+  pub reports : (n m : ℕ) → Missing y n m → (n ≡ 0) × ((m ≡ 0) ↔ Complete y)
+  -- its entries then equal B's exactly
+  pub equal : Complete y → entries (version (heap c) v) ≡ entries B
+  -- and until then every key stands as in A or as in B
+  pub between : (k : ℕ) → (find (entries (version (heap c) v)) k ≡ find (entries A) k) ⊎ (find (entries (version (heap c) v)) k ≡ find (entries B) k)
+  -- each answer on the way
+  pub answers : Each (Heeded (frames batch A B) v) run
+  -- block and inbox stay sound
+  pub sound-block : SoundBlock c
+  pub sound-inbox : SoundInbox y
