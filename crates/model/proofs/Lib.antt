@@ -29,6 +29,8 @@ pub mod Sums
 pub mod Words
 pub mod Bits
 pub mod Unique
+pub mod Tested
+pub mod Small
 pub mod Pinned
 pub mod Versions
 -- How a call goes
@@ -55,6 +57,7 @@ pub mod Missing
 pub mod Replicas
 pub mod Receiving
 pub mod Standbys
+pub mod Possible
 -- The calls
 pub mod Checks
 pub mod Once

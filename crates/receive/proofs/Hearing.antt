@@ -9,7 +9,8 @@ use lib.ListN.{length}
 use native.Mathlib.Omega.{arith}
 use Rattle.model.specs.Frame.{Frame, parse}
 use Rattle.model.specs.Inbox.{begun}
-use Rattle.model.specs.Link.{Parse, Begin, Heard, Receive, Hearing, still, then}
+use Rattle.model.specs.Link.{Parse, Begin, Heard, Receive}
+use Rattle.model.specs.Replica.{Nothing, Hearing, still, then}
 use Rattle.model.specs.Calls.{fails, passes}
 use Rattle.receive.specs.Lines.{Runs, idle, waits, begins, hears}
 
@@ -18,9 +19,9 @@ pub runs-none : (b x : List ℕ) (g : Bool) → Runs b x g [] b x g
 runs-none b x true = hears still
 runs-none b x false = idle
 
-hearing-then : {b x c y d z : List ℕ} {ls ms : List (List ℕ)} → Hearing 0 b x ls c y → Hearing 0 c y ms d z → Hearing 0 b x (ls ++ ms) d z
+hearing-then : {b x c y d z : List ℕ} {ls ms : List (List ℕ)} → Hearing Nothing 0 b x ls c y → Hearing Nothing 0 c y ms d z → Hearing Nothing 0 b x (ls ++ ms) d z
 hearing-then still later = later
-hearing-then (then a r one) later = then a r (hearing-then one later)
+hearing-then (then a n r one) later = then a n r (hearing-then one later)
 
 -- lines, and then others
 pub runs-then : {b x c y d z : List ℕ} {g h k : Bool} {ls ms : List (List ℕ)} → Runs b x g ls c y h → Runs c y h ms d z k → Runs b x g (ls ++ ms) d z k
@@ -31,7 +32,7 @@ runs-then (hears one) (hears later) = hears (hearing-then one later)
 
 -- a line once a batch has begun
 pub runs-hears : {b x c y : List ℕ} {g : Bool} (line : List ℕ) (a : Heard) → g ≡ true → Receive (record { block = b; inbox = x; block′ = c; inbox′ = y; answer = a }) 0 line → Runs b x g (line ∷ []) c y true
-runs-hears line a e r = rw e (hears (then a r still))
+runs-hears line a e r = rw e (hears (then a refl r still))
 
 -- before that, a malformed line
 pub runs-waits : {b x : List ℕ} {g : Bool} {n : ℕ} (f : Frame) (line : List ℕ) → g ≡ false → Parse (parse line) n f → n ≢ 0 → Runs b x g (line ∷ []) b x false
@@ -43,7 +44,7 @@ runs-waits {n = n} f line e P ne = rw e (waits (said (parse line) P) idle)
 
 -- and the first that is well formed
 pub runs-begins : {b x z c y : List ℕ} {g : Bool} {n m : ℕ} (f : Frame) (line : List ℕ) (a : Heard) → g ≡ false → Parse (parse line) n f → n ≡ 0 → length x ≡ 130 → Begin x z (f .batch) m → Receive (record { block = b; inbox = z; block′ = c; inbox′ = y; answer = a }) 0 line → Runs b x g (line ∷ []) c y true
-runs-begins {b = b} {x = x} {z = z} {c = c} {y = y} {n = n} {m = m} f line a e P zero-n long B r = rw e (begins f (said (parse line) P) (then a (subst (λ (w : List ℕ). Receive (record { block = b; inbox = w; block′ = c; inbox′ = y; answer = a }) 0 line) (new B) r) still))
+runs-begins {b = b} {x = x} {z = z} {c = c} {y = y} {n = n} {m = m} f line a e P zero-n long B r = rw e (begins f (said (parse line) P) (then a refl (subst (λ (w : List ℕ). Receive (record { block = b; inbox = w; block′ = c; inbox′ = y; answer = a }) 0 line) (new B) r) still))
   where
     said : (o : Option Frame) → Parse o n f → o ≡ some f
     said none P = absurd (let q = P .0 in omega (arith, q, zero-n))
@@ -54,8 +55,8 @@ runs-begins {b = b} {x = x} {z = z} {c = c} {y = y} {n = n} {m = m} f line a e P
     new (passes _ p) = p .1
 
 -- what is heard of a line is what it says
-hearing-says : {b x c y : List ℕ} (l m : List ℕ) → parse l ≡ parse m → Hearing 0 b x (l ∷ []) c y → Hearing 0 b x (m ∷ []) c y
-hearing-says {b = b} {x = x} {c = c} {y = y} l m e (then a r still) = then {b = b} {x = x} {b′ = c} {x′ = y} {line = m} a (rw (sym e) r) still
+hearing-says : {b x c y : List ℕ} (l m : List ℕ) → parse l ≡ parse m → Hearing Nothing 0 b x (l ∷ []) c y → Hearing Nothing 0 b x (m ∷ []) c y
+hearing-says {b = b} {x = x} {c = c} {y = y} l m e (then {a = d} a n r still) = then {b = b} {x = x} {a = d} {b′ = c} {x′ = y} {line = m} a n (rw (sym e) r) still
 
 pub runs-says : {b x c y : List ℕ} {g h : Bool} (l m : List ℕ) → parse l ≡ parse m → Runs b x g (l ∷ []) c y h → Runs b x g (m ∷ []) c y h
 runs-says l m e (hears one) = hears (hearing-says l m e one)

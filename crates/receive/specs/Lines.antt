@@ -8,7 +8,7 @@ use lib.ListN.{length, take}
 use lib.Dec.{eqb}
 use Rattle.model.specs.Frame.{Frame, parse}
 use Rattle.model.specs.Inbox.{begun}
-use Rattle.model.specs.Link.{Hearing}
+use Rattle.model.specs.Replica.{Nothing, Hearing}
 use Rattle.receive.specs.declared.Progress.{Progress}
 
 -- the lines that end in `bytes`, where `held` came before: a line ends at its newline (10)
@@ -27,16 +27,16 @@ pub record Keeps (line : List ℕ) (len : ℕ) (held : List ℕ) : Type 0 where
   pub size : len ≡ min 36 (length held)
   pub bytes : take len line ≡ take 36 held
 
--- Lines heard into version 0: from a block and an inbox, and whether a batch has begun, to what they are then.
+-- Lines heard into version 0, with nothing done between them: from a block and an inbox, and whether a batch has begun, to what they are then.
 pub data Runs : (b x : List ℕ) (started : Bool) → List (List ℕ) → (b′ x′ : List ℕ) (started′ : Bool) → Type 0 where
   -- no line was well formed
   idle : {b x : List ℕ} → Runs b x false [] b x false
   -- before the first well-formed line all are passed over
   waits : {b x b′ x′ line : List ℕ} {lines : List (List ℕ)} {started′ : Bool} → parse line ≡ none → Runs b x false lines b′ x′ started′ → Runs b x false (line ∷ lines) b′ x′ started′
   -- the program begins with that line's batch, and hears it and all that follow
-  begins : {b x b′ x′ line : List ℕ} {lines : List (List ℕ)} (f : Frame) → parse line ≡ some f → Hearing 0 b (begun (f .batch)) (line ∷ lines) b′ x′ → Runs b x false (line ∷ lines) b′ x′ true
+  begins : {b x b′ x′ line : List ℕ} {lines : List (List ℕ)} (f : Frame) → parse line ≡ some f → Hearing Nothing 0 b (begun (f .batch)) (line ∷ lines) b′ x′ → Runs b x false (line ∷ lines) b′ x′ true
   -- once a batch has begun every line is heard
-  hears : {b x b′ x′ : List ℕ} {lines : List (List ℕ)} → Hearing 0 b x lines b′ x′ → Runs b x true lines b′ x′ true
+  hears : {b x b′ x′ : List ℕ} {lines : List (List ℕ)} → Hearing Nothing 0 b x lines b′ x′ → Runs b x true lines b′ x′ true
 
 -- the program between two bytes: its block and inbox, whether a batch has begun, and what it keeps of the line
 pub record State : Type 0 where
