@@ -1,18 +1,21 @@
--- Document 01's small trees worked through: cases 1 to 8 in one table under one claim, by computation.
+-- Document 01's small trees worked through: cases 1 to 8 in one table under one claim, by computation. Rows with number 0 hold down what those cases leave open.
 use mathlib.Core.Path.{_≡_, refl}
 use Prim.Native.Nat.{ℕ}
 use mathlib.Core.Bool.{Bool, false, _||_}
 use mathlib.Core.Option.{Option, some}
-use mathlib.Core.List.{List, [], _∷_, map}
+use mathlib.Core.List.{List, [], _∷_, _++_, map}
 use lib.ListN.{length}
 use lib.Dec.{eqb}
 use Rattle.model.specs.Tree.{Tree, leaf, node, Entry, size, idOf, lookup, entries}
 use Rattle.model.specs.Supply.{Supply, firstOf, afterFirst, isNone, among, next, taken, back, given}
-use Rattle.model.specs.Rules.{twice, rotateLeft, rotateRight, balanced, insertBy, insert, removeMin, withoutKey, join, split, unionBy, union, rest, difference, mergeBy, diffBy}
+use Rattle.model.specs.Rules.{twice, rotateLeft, rotateRight, balanced, insertBy, insert, removeMin, withoutKey, removePresent, remove, join, split, unionBy, union, rest, difference, mergeBy, diffBy}
 use Rattle.model.specs.Listing.{Row, turn, tooDeep, walk, listing}
 use Rattle.model.specs.Delta.{Change, changed, puts, removes, delta}
-use Rattle.model.specs.Heap.{freeFrom}
-use Rattle.model.specs.Frame.{Frame, nothing, frameOf, numbered, framesOf, frames}
+use Rattle.model.specs.Heap.{load, tree, version, freeFrom, free}
+use Rattle.model.specs.Block.{heap}
+use Rattle.model.specs.Frame.{Frame, digit, value, digits, number, line, kindLegal, legal, fields, parse, nothing, frameOf, numbered, framesOf, frames}
+use Rattle.model.specs.Lists.{rowWords, laid, part, listed, framed}
+use Rattle.model.proofs.Small.{before, amid}
 
 -- a tree's keys as they hang
 pub data Shape : Type 0 where
@@ -76,15 +79,64 @@ lessened rule =
     let r = built three leaf ((2, 20) ∷ (3, 31) ∷ []) in
     keys (entries (difference (diffBy rule) false three r (supplyBeside three r) .0))
 
+-- the heavy child's inner weight is exactly 2 times its outer weight: rotate twice, on either side
+abbrev twiceLeft : Tree
+twiceLeft =
+    let r = node 1 5 50 (node 2 3 30 (node 3 2 20 leaf leaf) (node 4 4 40 leaf leaf)) (node 5 6 60 leaf leaf) in
+    balanced 1 10 leaf r (supplyBeside leaf r) .0
+
+abbrev twiceRight : Tree
+twiceRight =
+    let l = node 1 3 30 (node 2 2 20 leaf leaf) (node 3 5 50 (node 4 4 40 leaf leaf) (node 5 6 60 leaf leaf)) in
+    balanced 7 70 l leaf (supplyBeside l leaf) .0
+
+-- 1 to 7 without 2: the minimum of its right side takes its place, and what it leaves there rotates
+abbrev seven : Tree
+seven = built leaf leaf ((1, 10) ∷ (2, 20) ∷ (3, 30) ∷ (4, 40) ∷ (5, 50) ∷ (6, 60) ∷ (7, 70) ∷ [])
+
+abbrev lessTwo : Tree
+lessTwo = remove seven 2 (supplyBeside leaf seven) .0
+
+-- a union in which pieces that were made go back
+abbrev gathered : Tree
+gathered =
+    let l = built leaf leaf ((1, 10) ∷ (2, 20) ∷ (3, 30) ∷ (5, 50) ∷ []) in
+    let r = built l leaf ((2, 21) ∷ (4, 41) ∷ (6, 61) ∷ []) in
+    union (mergeBy 4) l r (supplyBeside l r) .0
+
+-- two values whose sum is above the highest
+abbrev held : Option ℕ
+held =
+    let l = built leaf leaf ((1, 4294967295) ∷ []) in
+    let r = built l leaf ((1, 2) ∷ []) in
+    lookup (union (mergeBy 4) l r (supplyBeside l r) .0) 1
+
+-- document 01's example: the line 000000070000000101000000030000001f
+abbrev example : Frame
+example = record { batch = 7; index = 0; count = 1; kind = 1; key = 3; value = 31 }
+
+abbrev bytes : List ℕ
+bytes =
+    48 ∷ 48 ∷ 48 ∷ 48 ∷ 48 ∷ 48 ∷ 48 ∷ 55
+    ∷ 48 ∷ 48 ∷ 48 ∷ 48
+    ∷ 48 ∷ 48 ∷ 48 ∷ 49
+    ∷ 48 ∷ 49
+    ∷ 48 ∷ 48 ∷ 48 ∷ 48 ∷ 48 ∷ 48 ∷ 48 ∷ 51
+    ∷ 48 ∷ 48 ∷ 48 ∷ 48 ∷ 48 ∷ 48 ∷ 49 ∷ 102
+    ∷ 10 ∷ []
+
 -- what a case shows
 pub data Shown : Type 0 where
   hangs : Shape → Shown
   leaves : (free root : ℕ) → Shown
   holds : List ℕ → Shown
-  value : Option ℕ → Shown
+  finds : Option ℕ → Shown
   lists : List Row → Shown
   carries : List Change → Shown
   sends : List Frame → Shown
+  stands : Tree → Shown
+  writes : List ℕ → Shown
+  reads : Option Frame → Shown
 
 pub record Case : Type 0 where
   pub number : ℕ
@@ -99,11 +151,11 @@ table =
     ∷ record { number = 3; shown = hangs (shape (turned .0)); told = hangs (at 3 (at 1 bare (one 2)) (one 4)) }
     ∷ record { number = 3; shown = leaves (length (turned .1 .free)) (idOf (turned .0)); told = leaves 25 7 }
     ∷ record { number = 4; shown = hangs (shape (united 0)); told = hangs (at 2 (one 1) (one 3)) }
-    ∷ record { number = 4; shown = value (lookup (united 0) 2); told = value (some 20) }
-    ∷ record { number = 4; shown = value (lookup (united 1) 2); told = value (some 25) }
-    ∷ record { number = 4; shown = value (lookup (united 2) 2); told = value (some 20) }
-    ∷ record { number = 4; shown = value (lookup (united 3) 2); told = value (some 25) }
-    ∷ record { number = 4; shown = value (lookup (united 4) 2); told = value (some 45) }
+    ∷ record { number = 4; shown = finds (lookup (united 0) 2); told = finds (some 20) }
+    ∷ record { number = 4; shown = finds (lookup (united 1) 2); told = finds (some 25) }
+    ∷ record { number = 4; shown = finds (lookup (united 2) 2); told = finds (some 20) }
+    ∷ record { number = 4; shown = finds (lookup (united 3) 2); told = finds (some 25) }
+    ∷ record { number = 4; shown = finds (lookup (united 4) 2); told = finds (some 45) }
     ∷ record { number = 5; shown = holds (lessened 0); told = holds (1 ∷ []) }
     ∷ record { number = 5; shown = holds (lessened 1); told = holds (1 ∷ 3 ∷ []) }
     ∷ record { number = 5; shown = holds (lessened 2); told = holds (1 ∷ 2 ∷ 3 ∷ []) }
@@ -122,9 +174,34 @@ table =
     ∷ record { number = 7; shown = sends (frames 7 three apart); told = sends (nothing 7 ∷ []) }
     ∷ record { number = 8; shown = lists (listing three three .rows); told = lists [] }
     ∷ record { number = 8; shown = lists (listing leaf three .rows); told = lists [] }
+    ∷ record { number = 0; shown = hangs (shape twiceLeft); told = hangs (at 3 (at 1 bare (one 2)) (at 5 (one 4) (one 6))) }
+    ∷ record { number = 0; shown = hangs (shape twiceRight); told = hangs (at 5 (at 3 (one 2) (one 4)) (at 7 (one 6) bare)) }
+    ∷ record {
+      number = 0;
+      shown = stands lessTwo;
+      told = stands (node 9 3 30 (node 6 1 10 leaf leaf) (node 3 5 50 (node 2 4 40 leaf leaf) (node 4 6 60 leaf (node 1 7 70 leaf leaf))));
+    }
+    ∷ record {
+      number = 0;
+      shown = stands gathered;
+      told = stands (node 12 4 41 (node 11 2 41 (node 6 1 10 leaf leaf) (node 10 3 30 leaf leaf)) (node 5 5 50 leaf (node 4 6 61 leaf leaf)));
+    }
+    ∷ record { number = 0; shown = finds held; told = finds (some 4294967295) }
+    ∷ record { number = 0; shown = writes (part 4 1 11 (map rowWords (listing (four .0) copy .rows))); told = writes (3 ∷ 30 ∷ 1 ∷ 30 ∷ 4 ∷ 40 ∷ 1 ∷ 44 ∷ []) }
+    ∷ record { number = 0; shown = writes (part 4 2 8 (map rowWords (listing three leaf .rows))); told = writes (3 ∷ 30 ∷ 0 ∷ 0 ∷ []) }
+    ∷ record { number = 0; shown = writes (laid (listed before 0 1 .pieces)); told = writes (1 ∷ 10 ∷ 0 ∷ 0 ∷ []) }
+    ∷ record {
+      number = 0;
+      shown = writes (laid (framed before 0 1 7 .pieces));
+      told = writes (line (record { batch = 7; index = 0; count = 2; kind = 1; key = 2; value = 4294967295 }) ++ line (record { batch = 7; index = 1; count = 2; kind = 2; key = 1; value = 0 }));
+    }
+    ∷ record { number = 0; shown = writes (line example); told = writes bytes }
+    ∷ record { number = 0; shown = reads (parse bytes); told = reads (some example) }
+    ∷ record { number = 0; shown = stands (version (heap amid) 0); told = stands (node 4 1 10 leaf (node 3 2 4294967295 leaf leaf)) }
+    ∷ record { number = 0; shown = writes (free (heap amid)); told = writes (1 ∷ freeFrom (λ n. false) 5 28) }
     ∷ []
 
 -- every case shows what document 01 says
 pub worked-cases : map (λ (c : Case). c .shown) table ≡ map (λ (c : Case). c .told) table
-unfolding table shape keys occurs supplyBeside built size idOf lookup entries firstOf afterFirst isNone among next taken back given freeFrom twice rotateLeft rotateRight balanced insertBy insert removeMin withoutKey join split unionBy union rest difference mergeBy diffBy turn tooDeep walk listing changed puts removes delta frameOf numbered framesOf
+unfolding table shape keys occurs supplyBeside built size idOf lookup entries firstOf afterFirst isNone among next taken back given freeFrom twice rotateLeft rotateRight balanced insertBy insert removeMin withoutKey removePresent remove join split unionBy union rest difference mergeBy diffBy turn tooDeep walk listing changed puts removes delta digit value digits number line kindLegal legal fields parse frameOf numbered framesOf rowWords laid load tree before amid
 worked-cases = refl

@@ -18,7 +18,6 @@ pub mod Keeping
 pub mod Steady
 pub mod Room
 pub mod Cancel
-pub mod Cases
 -- Heaps, and the block that is one
 pub mod Loads
 pub mod Counts
@@ -31,6 +30,7 @@ pub mod Bits
 pub mod Unique
 pub mod Tested
 pub mod Small
+pub mod Cases
 pub mod Pinned
 pub mod Versions
 -- How a call goes

@@ -101,12 +101,3 @@ amid-others = but-first before amid refl refl (amid-trees .1 ∙ sym (before-tre
 pub done-others : (w : ℕ) → w < 16 → w ≢ 0 → version (heap done) w ≡ version (heap amid) w
 unfolding amid done upTo
 done-others = but-first amid done refl refl (done-trees .1 ∙ sym (amid-trees .1))
-
--- the numbers free in them
-pub before-free : free (heap before) ≡ freeFrom (λ n. false) 3 30
-unfolding before freeFrom
-before-free = refl
-
-pub amid-free : free (heap amid) ≡ 1 ∷ freeFrom (λ n. false) 5 28
-unfolding amid freeFrom
-amid-free = refl
