@@ -4,7 +4,7 @@ use Prim.Native.Nat.{ℕ}
 use mathlib.Core.Bool.{Bool, false, _||_}
 use mathlib.Core.Option.{Option, some}
 use mathlib.Core.List.{List, [], _∷_, _++_, map}
-use lib.ListN.{length}
+use lib.ListN.{length, replicate}
 use lib.Dec.{eqb}
 use Rattle.model.specs.Tree.{Tree, leaf, node, Entry, size, idOf, lookup, entries}
 use Rattle.model.specs.Supply.{Supply, firstOf, afterFirst, isNone, among, next, taken, back, given}
@@ -14,6 +14,7 @@ use Rattle.model.specs.Delta.{Change, changed, puts, removes, delta}
 use Rattle.model.specs.Heap.{load, tree, version, freeFrom, free}
 use Rattle.model.specs.Block.{heap}
 use Rattle.model.specs.Frame.{Frame, digit, value, digits, number, line, kindLegal, legal, fields, parse, nothing, frameOf, numbered, framesOf, frames}
+use Rattle.model.specs.Calls.{freshBlock}
 use Rattle.model.specs.Lists.{rowWords, laid, part, listed, framed}
 use Rattle.model.proofs.Small.{before, amid}
 
@@ -197,11 +198,12 @@ table =
     }
     ∷ record { number = 0; shown = writes (line example); told = writes bytes }
     ∷ record { number = 0; shown = reads (parse bytes); told = reads (some example) }
+    ∷ record { number = 0; shown = writes (freshBlock 32); told = writes (32 ∷ replicate 273 0) }
     ∷ record { number = 0; shown = stands (version (heap amid) 0); told = stands (node 4 1 10 leaf (node 3 2 4294967295 leaf leaf)) }
     ∷ record { number = 0; shown = writes (free (heap amid)); told = writes (1 ∷ freeFrom (λ n. false) 5 28) }
     ∷ []
 
 -- every case shows what document 01 says
 pub worked-cases : map (λ (c : Case). c .shown) table ≡ map (λ (c : Case). c .told) table
-unfolding table shape keys occurs supplyBeside built size idOf lookup entries firstOf afterFirst isNone among next taken back given freeFrom twice rotateLeft rotateRight balanced insertBy insert removeMin withoutKey removePresent remove join split unionBy union rest difference mergeBy diffBy turn tooDeep walk listing changed puts removes delta digit value digits number line kindLegal legal fields parse frameOf numbered framesOf rowWords laid load tree before amid
+unfolding table shape keys occurs supplyBeside built size idOf lookup entries firstOf afterFirst isNone among next taken back given freeFrom twice rotateLeft rotateRight balanced insertBy insert removeMin withoutKey removePresent remove join split unionBy union rest difference mergeBy diffBy turn tooDeep walk listing changed puts removes delta digit value digits number line kindLegal legal fields parse frameOf numbered framesOf freshBlock rowWords laid load tree before amid
 worked-cases = refl

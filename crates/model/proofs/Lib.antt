@@ -62,3 +62,4 @@ pub mod Possible
 pub mod Checks
 pub mod Once
 pub mod Meanings
+pub mod Refusals

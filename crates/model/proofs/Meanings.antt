@@ -1,27 +1,24 @@
 -- The calls in a user's words: what a done edit holds afterwards, that a refused one changes nothing, and when there is no room.
-use mathlib.Core.Path.{_≡_, refl, ap, sym, _∙_}
+use mathlib.Core.Path.{_≡_, ap, sym, _∙_}
 use mathlib.Core.Logic.{_≢_}
-use Prim.Native.Nat.{ℕ, suc, _+_, _*_, _≤_, _<_}
+use Prim.Native.Nat.{ℕ, suc, _<_}
 use mathlib.Core.Bool.{Bool, true, false, not, _&&_, true≢false}
-use mathlib.Core.Option.{Option, none, some}
 use mathlib.Core.List.{List, [], _∷_}
 use lib.ListN.{length}
 use lib.Dec.{eqb, leb}
 use borrow.Author.Tests.{eq-eqb}
 use native.Mathlib.Omega.{arith}
 use native.Mathlib.Decide.{ℕ-discrete}
-use Rattle.model.specs.Tree.{leaf, entries, AllBelow, height, lookup, find, put, without, both, less, Is}
+use Rattle.model.specs.Tree.{leaf, entries, AllBelow, find, put, without, both, less, Is}
 use Rattle.model.specs.Sums.{minutes, those, within}
 use Rattle.model.specs.Listing.{Row, listing, leftEntries}
 use Rattle.model.specs.Supply.{short}
 use Rattle.model.specs.Rules.{difference, mergeBy, diffBy}
-use Rattle.model.specs.Heap.{version, free, supply}
+use Rattle.model.specs.Heap.{version, supply}
 use Rattle.model.specs.Block.{heap, SoundBlock}
-use Rattle.model.specs.Numbers.{NO_ROOM}
 use Rattle.model.specs.Calls.{fails, passes, Answer, refusal, finding, Versions, Edited, Edit, Reads, Edits, Lookup, Size, Held, HeldBetween, inserting, removing, copying, clearing, uniting, lessening}
 use Rattle.model.proofs.Entries.{lookup-entries, insert-entries}
 use Rattle.model.proofs.Edits.{size-length, remove-entries}
-use Rattle.model.proofs.Room.{insert-room, remove-room}
 use Rattle.model.proofs.Sums.{turned-none, whole-all}
 use Rattle.model.proofs.Listings.{listing-alone}
 use Rattle.model.proofs.Versions.{version-ordered, union-entries, difference-entries, cancelling-changes-nothing}
@@ -64,56 +61,7 @@ others-keep-their-entries {b} {after} {a} e w E v lt ne = go (ℕ-discrete (a .n
     go (yes z) = ap entries (edit-done e E z .edited .others v lt ne)
     go (no z) = ap (λ x. entries (version (heap x) v)) (refused-edit-changes-nothing e w E z)
 
--- NO_ROOM is given exactly when all else is in order and a make of the rule finds no free node
-pub record Crowded (b : List ℕ) (e : Edit) : Type 0 where
-  pub sound : SoundBlock b
-  pub versions : Versions (e .versions)
-  pub legal : e .legal ≡ true
-  pub short : short (e .rule (supply (heap b)) .1) ≡ true
-
-other-number : {x y : ℕ} (a : Answer) → a ≡ refusal x → a .number ≡ y → x ≢ y → ⊥
-other-number a e z ne = ne (sym (ap (λ (x : Answer). x .number) e) ∙ z)
-
-pub no-room-means : {b after : List ℕ} {a : Answer} (e : Edit) → e .answer .number ≡ 0 → Edits b after e a → a .number ≡ NO_ROOM → Crowded b e
-no-room-means {a = a} e w (fails p r) z = absurd (other-number a (r .0) z (omega arith))
-no-room-means {a = a} e w (passes p (fails q r)) z = absurd (other-number a (r .0) z (omega arith))
-no-room-means {a = a} e w (passes p (passes q (fails u r))) z = absurd (other-number a (r .0) z (omega arith))
-no-room-means {a = a} e w (passes p (passes q (passes u (fails l r)))) z = absurd (other-number a (r .0) z (omega arith))
-no-room-means {b} e w (passes p (passes q (passes u (passes l (fails m r))))) z =
-    record { sound = q; versions = u; legal = l; short = not-false-true (short (e .rule (supply (heap b)) .1)) m }
-  where
-    not-false-true : (t : Bool) → (t ≡ false → ⊥) → t ≡ true
-    not-false-true true f = refl
-    not-false-true false f = absurd (f refl)
-no-room-means e w (passes p (passes q (passes u (passes l (passes m r))))) z = let n : _≡_ {A = ℕ} 0 5 = sym w ∙ sym (ap (λ (x : Answer). x .number) (r .0)) ∙ z in absurd (omega arith)
-
-pub means-no-room : {b after : List ℕ} {a : Answer} (e : Edit) → Crowded b e → Edits b after e a → a .number ≡ NO_ROOM
-means-no-room e C (fails p r) = absurd (p (C .sound .shaped))
-means-no-room e C (passes p (fails q r)) = absurd (q (C .sound))
-means-no-room e C (passes p (passes q (fails u r))) = absurd (u (C .versions))
-means-no-room e C (passes p (passes q (passes u (fails l r)))) = absurd (l (C .legal))
-means-no-room e C (passes p (passes q (passes u (passes l (fails m r))))) = ap (λ (x : Answer). x .number) (r .0)
-means-no-room {b} e C (passes p (passes q (passes u (passes l (passes m r))))) = absurd (true≢false (sym (C .short) ∙ m))
-
 -- Call by call.
-
-finding-number : (o : Option ℕ) → finding o .number ≡ 0
-finding-number none = refl
-finding-number (some v) = refl
-
--- room that is enough: where three nodes are free for each level of the source's tree, and one more, an insert or a remove is not refused for it
-module _ {b after : List ℕ} {a : Answer} (dst src key : ℕ) (enough : 3 * height (version (heap b) src) + 1 ≤ length (free (heap b))) where
-  pub insert-finds-room : (value : ℕ) → Edits b after (inserting b dst src key value) a → a .number ≢ NO_ROOM
-  unfolding supply short
-  insert-finds-room value E z =
-      let C = no-room-means (inserting b dst src key value) (finding-number (lookup (version (heap b) src) key)) E z in
-      true≢false (sym (C .short) ∙ insert-room (version (heap b) src) key value (supply (heap b)) refl enough)
-
-  pub remove-finds-room : Edits b after (removing b dst src key) a → a .number ≢ NO_ROOM
-  unfolding supply short
-  remove-finds-room E z =
-      let C = no-room-means (removing b dst src key) (finding-number (lookup (version (heap b) src) key)) E z in
-      true≢false (sym (C .short) ∙ remove-room (version (heap b) src) key (supply (heap b)) refl (omega (arith, enough)))
 
 -- after insert the destination's entries are the source's with the key put; the answer is what stood there
 pub insert-puts : {b after : List ℕ} {a : Answer} (dst src key value : ℕ) → Edits b after (inserting b dst src key value) a → a .number ≡ 0

@@ -2,14 +2,14 @@
 use mathlib.Core.Path.{_≡_, refl, sym, _∙_}
 use mathlib.Core.Logic.{_≢_}
 use Prim.Native.Nat.{ℕ, zero, suc, _+_, _<_}
-use mathlib.Core.Bool.{true, false}
+use mathlib.Core.Bool.{true}
 use mathlib.Core.List.{List, _∷_, _++_}
 use lib.ListN.{replicate}
 use lib.Dec.{eqb}
 use borrow.Author.Tests.{eqb-true}
 use native.Mathlib.Omega.{arith}
 use Rattle.model.specs.Tree.{leaf, node, entries}
-use Rattle.model.specs.Heap.{load, tree, version, hit, hits, refs, freeFrom, free}
+use Rattle.model.specs.Heap.{load, tree, version, hit, hits, refs}
 use Rattle.model.specs.Block.{heap, Shaped, SoundBlock}
 use Rattle.model.proofs.Tested.{upTo, upTo-at, below, above, ordered, block-tested}
 

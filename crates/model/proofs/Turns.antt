@@ -1,15 +1,16 @@
 -- The walk ends, and it is too deep exactly when its loop at some turn is.
 use mathlib.Core.Path.{_≡_, refl, ap, sym, _∙_}
-use mathlib.Core.Logic.{_↔_}
+use mathlib.Core.Logic.{_⊎_, inl, inr, ⊎-elim, _↔_}
 use Prim.Native.Nat.{ℕ, zero, suc, _+_, _*_, _≤_, _<_, compare, Ordering, Ordering·lt, Ordering·eq, Ordering·gt}
 use mathlib.Core.Bool.{Bool, true, false, true≢false, _||_}
 use mathlib.Core.List.{List, [], _∷_}
 use lib.ListN.{length}
 use lib.Dec.{eqb, ltb, leb}
-use borrow.Author.Tests.{ltb-false, le-ltb, eq-eqb}
+use borrow.Author.Tests.{ltb-true, ltb-false, lt-ltb, le-ltb, eq-eqb}
 use native.Mathlib.Omega.{arith}
 use Rattle.model.specs.Tree.{Tree, leaf, node, size, idOf}
 use Rattle.model.specs.Listing.{Item, tree, entry, Sides, Turn, over, on, yield, Walk, pend, opened, turn, tooDeep, walk, start, turns, listing, nextSides, after}
+use Rattle.model.proofs.Tests.{either}
 
 -- the turns that a side can take: two for each node of a tree, one for an entry
 unfoldable pub cost : List Item → ℕ
@@ -155,10 +156,25 @@ pub walk-ends : (a b : Tree) (f : ℕ) → turns a b ≤ f → walk f (start a b
 unfolding listing
 walk-ends a b f p = walk-enough f (turns a b) (start a b) (omega (arith, costs-start a b)) (costs-start a b)
 
+-- more than 64 items on one side
+deep-says : (s : Sides) → (tooDeep s ≡ true) ↔ ((64 < length (s .left)) ⊎ (64 < length (s .right)))
+unfolding tooDeep
+deep-says s = (
+  (λ e. ⊎-elim (λ p. inl (ltb-true 64 (length (s .left)) p)) (λ p. inr (ltb-true 64 (length (s .right)) p)) (either (ltb 64 (length (s .left))) (ltb 64 (length (s .right))) e)),
+  ⊎-elim (λ p. rw (lt-ltb 64 (length (s .left)) p) refl) (λ p. on-right (ltb 64 (length (s .left))) p),
+)
+  where
+    on-right : (t : Bool) → 64 < length (s .right) → (t || ltb 64 (length (s .right))) ≡ true
+    on-right true p = refl
+    on-right false p = lt-ltb 64 (length (s .right)) p
+
 -- TOO_DEEP exactly when the loop, at some turn, has more than 64 items pending on one side
-pub too-deep-exactly : (a b : Tree) → (listing a b .deep ≡ true) ↔ ((n : ℕ) × (tooDeep (after n (start a b)) ≡ true))
+pub too-deep-exactly : (a b : Tree) → (listing a b .deep ≡ true) ↔ ((n : ℕ) × ((64 < length (after n (start a b) .left)) ⊎ (64 < length (after n (start a b) .right))))
 unfolding listing
-too-deep-exactly a b = (deep-reached (turns a b) (start a b), λ w. reached-deep (w .0) (turns a b) (start a b) (costs-start a b) (shallow-start a b) (w .1))
+too-deep-exactly a b = (
+  (λ d. let w = deep-reached (turns a b) (start a b) d in (w .0, deep-says (after (w .0) (start a b)) .0 (w .1))),
+  (λ w. reached-deep (w .0) (turns a b) (start a b) (costs-start a b) (shallow-start a b) (deep-says (after (w .0) (start a b)) .1 (w .1))),
+)
 
 -- an empty left lists nothing
 pub empty-left-lists-nothing : (b : Tree) → listing leaf b ≡ nothing

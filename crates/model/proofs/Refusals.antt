@@ -1,0 +1,169 @@
+-- Which number a call gives: each exactly when document 01 says, call by call.
+use mathlib.Core.Path.{_≡_, refl, ap, sym, subst, _∙_}
+use mathlib.Core.Logic.{_≢_, _⊎_, inl, inr, ⊎-elim, _↔_}
+use Prim.Native.Nat.{ℕ, _+_, _*_, _≤_, _<_}
+use mathlib.Core.Bool.{Bool, true, false, not, _&&_, true≢false}
+use mathlib.Core.Option.{Option, none, some}
+use mathlib.Core.List.{List}
+use lib.ListN.{length}
+use lib.Dec.{eqb, leb}
+use borrow.Author.Tests.{leb-false, lt-leb, le-leb, eqb-true, eq-eqb}
+use native.Mathlib.Omega.{arith}
+use Rattle.model.specs.Tree.{height, lookup}
+use Rattle.model.specs.Supply.{short}
+use Rattle.model.specs.Rules.{remove}
+use Rattle.model.specs.Heap.{version, free, supply}
+use Rattle.model.specs.Block.{heap, Shaped, SoundBlock}
+use Rattle.model.specs.Inbox.{begun}
+use Rattle.model.specs.Numbers.{SHAPE, DAMAGED, VERSION, RULE, NO_ROOM}
+use Rattle.model.specs.Calls.{fails, passes, Answer, finding, Versions, Edit, Edits, Fitting, inserting, removing, copying, clearing, uniting, lessening}
+use Rattle.model.specs.Link.{Begin}
+use Rattle.model.proofs.Room.{insert-room, remove-room}
+use Rattle.model.proofs.Growing.{stocked-supply}
+
+-- the edits that are calls
+pub data Called (b : List ℕ) : Edit → Type 0 where
+  inserts : (dst src key value : ℕ) → Called b (inserting b dst src key value)
+  removes : (dst src key : ℕ) → Called b (removing b dst src key)
+  copies : (dst src : ℕ) → Called b (copying b dst src)
+  clears : (v : ℕ) → Called b (clearing v)
+  unites : (dst left right rule : ℕ) → Called b (uniting b dst left right rule)
+  lessens : (dst left right rule : ℕ) (cancel : Bool) → Called b (lessening b dst left right rule cancel)
+
+found-number : (o : Option ℕ) → finding o .number ≡ 0
+found-number none = refl
+found-number (some v) = refl
+
+done-number : {b : List ℕ} {e : Edit} → Called b e → e .answer .number ≡ 0
+done-number {b} (inserts dst src key value) = found-number (lookup (version (heap b) src) key)
+done-number {b} (removes dst src key) = found-number (lookup (version (heap b) src) key)
+done-number (copies dst src) = refl
+done-number (clears v) = refl
+done-number (unites dst left right rule) = refl
+done-number (lessens dst left right rule cancel) = refl
+
+-- the number n, exactly
+pub record Exactly (b : List ℕ) (e : Edit) (n : ℕ) : Type 0 where
+  pub shape : (n ≡ SHAPE) ↔ (Shaped b → ⊥)
+  pub damaged : (n ≡ DAMAGED) ↔ (Shaped b × (SoundBlock b → ⊥))
+  pub version : (n ≡ VERSION) ↔ (SoundBlock b × (Versions (e .versions) → ⊥))
+  pub rule : (n ≡ RULE) ↔ (SoundBlock b × Versions (e .versions) × (e .legal ≡ false))
+  -- a make of the rule finds no free node
+  pub no-room : (n ≡ NO_ROOM) ↔ (SoundBlock b × Versions (e .versions) × (e .legal ≡ true) × (short (e .rule (supply (heap b)) .1) ≡ true))
+
+not-true : (t : Bool) → (t ≡ true → ⊥) → t ≡ false
+not-true true f = absurd (f refl)
+not-true false f = refl
+
+not-false : (t : Bool) → (t ≡ false → ⊥) → t ≡ true
+not-false true f = refl
+not-false false f = absurd (f refl)
+
+-- a number that is given, and one that is not
+module _ {a : Answer} {X : Type 0} {k : ℕ} where
+  given : {c : Answer} → a ≡ c → c .number ≡ k → X → (a .number ≡ k) ↔ X
+  given e z x = ((λ _. x), (λ _. ap (λ (r : Answer). r .number) e ∙ z))
+
+  other : {c : Answer} → a ≡ c → c .number ≢ k → (X → ⊥) → (a .number ≡ k) ↔ X
+  other e ne f = ((λ z. absurd (ne (sym (ap (λ (r : Answer). r .number) e) ∙ z))), (λ x. absurd (f x)))
+
+pub edit-numbers : {b after : List ℕ} {a : Answer} {e : Edit} → Called b e → Edits b after e a → Exactly b e (a .number)
+edit-numbers C (fails p r) = record {
+  shape = given (r .0) refl p;
+  damaged = other (r .0) (omega arith) (λ x. p (x .0));
+  version = other (r .0) (omega arith) (λ x. p (x .0 .shaped));
+  rule = other (r .0) (omega arith) (λ x. p (x .0 .shaped));
+  no-room = other (r .0) (omega arith) (λ x. p (x .0 .shaped));
+}
+edit-numbers C (passes p (fails q r)) = record {
+  shape = other (r .0) (omega arith) (λ x. x p);
+  damaged = given (r .0) refl (p, q);
+  version = other (r .0) (omega arith) (λ x. q (x .0));
+  rule = other (r .0) (omega arith) (λ x. q (x .0));
+  no-room = other (r .0) (omega arith) (λ x. q (x .0));
+}
+edit-numbers C (passes p (passes q (fails u r))) = record {
+  shape = other (r .0) (omega arith) (λ x. x p);
+  damaged = other (r .0) (omega arith) (λ x. x .1 q);
+  version = given (r .0) refl (q, u);
+  rule = other (r .0) (omega arith) (λ x. u (x .1));
+  no-room = other (r .0) (omega arith) (λ x. u (x .1));
+}
+edit-numbers {e = e} C (passes p (passes q (passes u (fails l r)))) = record {
+  shape = other (r .0) (omega arith) (λ x. x p);
+  damaged = other (r .0) (omega arith) (λ x. x .1 q);
+  version = other (r .0) (omega arith) (λ x. x .1 u);
+  rule = given (r .0) refl (q, u, not-true (e .legal) l);
+  no-room = other (r .0) (omega arith) (λ x. l (x .2));
+}
+edit-numbers {b} {e = e} C (passes p (passes q (passes u (passes l (fails m r))))) = record {
+  shape = other (r .0) (omega arith) (λ x. x p);
+  damaged = other (r .0) (omega arith) (λ x. x .1 q);
+  version = other (r .0) (omega arith) (λ x. x .1 u);
+  rule = other (r .0) (omega arith) (λ x. true≢false (sym l ∙ x .2));
+  no-room = given (r .0) refl (q, u, l, not-false (short (e .rule (supply (heap b)) .1)) m);
+}
+edit-numbers {e = e} C (passes p (passes q (passes u (passes l (passes m r))))) = record {
+  shape = other (r .0) (is-done 1 (omega arith)) (λ x. x p);
+  damaged = other (r .0) (is-done 2 (omega arith)) (λ x. x .1 q);
+  version = other (r .0) (is-done 3 (omega arith)) (λ x. x .1 u);
+  rule = other (r .0) (is-done 4 (omega arith)) (λ x. true≢false (sym l ∙ x .2));
+  no-room = other (r .0) (is-done 5 (omega arith)) (λ x. true≢false (sym (x .3) ∙ m));
+}
+  where
+    is-done : (k : ℕ) → 0 < k → e .answer .number ≢ k
+    is-done k h z = omega (arith, done-number C)
+
+-- union has rules 0 to 4
+pub union-rules : (b : List ℕ) (dst left right rule : ℕ) → (uniting b dst left right rule .legal ≡ false) ↔ (4 < rule)
+union-rules b dst left right rule = (leb-false rule 4, lt-leb rule 4)
+
+-- difference has rules 0 to 3, and rule 2 not with cancelling
+pub difference-rules : (b : List ℕ) (dst left right rule : ℕ) (cancel : Bool) → (lessening b dst left right rule cancel .legal ≡ false) ↔ ((3 < rule) ⊎ ((cancel ≡ true) × (rule ≡ 2)))
+difference-rules b dst left right rule cancel = (to cancel (leb rule 3) refl (eqb rule 2) refl, ⊎-elim (λ h. rw (lt-leb rule 3 h) refl) (λ h. rw (h .0, eq-eqb rule 2 (h .1), le-leb rule 3 (omega (arith, h .1))) refl))
+  where
+    to : (c t : Bool) → leb rule 3 ≡ t → (u : Bool) → eqb rule 2 ≡ u → (t && not (c && u)) ≡ false → (3 < rule) ⊎ ((c ≡ true) × (rule ≡ 2))
+    to c false e u d z = inl (leb-false rule 3 e)
+    to true true e true d z = inr (refl, eqb-true rule 2 d)
+    to true true e false d z = absurd (true≢false z)
+    to false true e u d z = absurd (true≢false z)
+
+-- copy and clear make nothing, so they find room always
+pub copy-finds-room : {b after : List ℕ} {a : Answer} (dst src : ℕ) → Edits b after (copying b dst src) a → a .number ≢ NO_ROOM
+copy-finds-room {b} dst src E z = true≢false (sym (edit-numbers (copies dst src) E .no-room .0 z .3) ∙ stocked-supply (heap b) .enough)
+
+pub clear-finds-room : {b after : List ℕ} {a : Answer} (v : ℕ) → Edits b after (clearing v) a → a .number ≢ NO_ROOM
+clear-finds-room {b} v E z = true≢false (sym (edit-numbers (clears v) E .no-room .0 z .3) ∙ stocked-supply (heap b) .enough)
+
+-- room that is enough: where three nodes are free for each level of the source's tree, and one more, an insert or a remove is not refused for it
+module _ {b after : List ℕ} {a : Answer} (dst src key : ℕ) (enough : 3 * height (version (heap b) src) + 1 ≤ length (free (heap b))) where
+  pub insert-finds-room : (value : ℕ) → Edits b after (inserting b dst src key value) a → a .number ≢ NO_ROOM
+  unfolding supply
+  insert-finds-room value E z = true≢false (sym (edit-numbers (inserts dst src key value) E .no-room .0 z .3) ∙ insert-room (version (heap b) src) key value (supply (heap b)) (stocked-supply (heap b) .enough) enough)
+
+  pub remove-finds-room : Edits b after (removing b dst src key) a → a .number ≢ NO_ROOM
+  unfolding supply
+  remove-finds-room E z = true≢false (sym (edit-numbers (removes dst src key) E .no-room .0 z .3) ∙ remove-room (version (heap b) src) key (supply (heap b)) (stocked-supply (heap b) .enough) (omega (arith, enough)))
+
+-- remove of an absent key acts as copy
+pub remove-absent : {b after : List ℕ} {a : Answer} (dst src key : ℕ) → lookup (version (heap b) src) key ≡ none → Edits b after (removing b dst src key) a → Edits b after (copying b dst src) a
+remove-absent {b} {after} {a} dst src key e = subst (λ (x : Edit). Edits b after x a) same
+  where
+    same : removing b dst src key ≡ copying b dst src
+    same = unfold remove in rw (e, remove) refl
+
+-- N is a multiple of 32 from 32 to 4,096
+pub fitting-ends : Fitting 274 32 × Fitting 32913 4096 × ((words : ℕ) → Fitting words 0 → ⊥) × ((words : ℕ) → Fitting words 4128 → ⊥) × (Fitting 275 32 → ⊥) × ((words : ℕ) → Fitting words 48 → ⊥)
+fitting-ends = (
+  record { least = omega arith; most = omega arith; whole = refl; long = refl },
+  record { least = omega arith; most = omega arith; whole = refl; long = refl },
+  (λ words F. omega (arith, F .least)),
+  (λ words F. omega (arith, F .most)),
+  (λ F. omega (arith, F .long)),
+  (λ words F. omega (arith, F .whole)),
+)
+
+-- begin checks the length only: whatever else the 130 words are
+pub begin-begins : {x after : List ℕ} {n : ℕ} (batch : ℕ) → length x ≡ 130 → Begin x after batch n → (n ≡ 0) × (after ≡ begun batch)
+begin-begins batch e (fails p r) = absurd (p e)
+begin-begins batch e (passes p r) = r
