@@ -3,15 +3,15 @@ use mathlib.Core.Path.{_≡_, refl, ap, sym, _∙_}
 use mathlib.Core.Logic.{_≢_}
 use Prim.Native.Nat.{ℕ, zero, suc, _+_, _*_, _≤_, _<_}
 use mathlib.Core.Option.{none, some}
-use mathlib.Core.List.{List, [], _∷_, map}
+use mathlib.Core.List.{List, []}
 use native.Mathlib.Omega.{arith}
 use lib.ListN.{length, getD, length-map}
 use borrow.Author.Tests.{lt-ltb, le-ltb}
 use Rattle.model.specs.Frame.{Frame, line, frameOf, nothing, framesOf, frameAt}
 use Rattle.model.proofs.Lines.{line-length}
 use Rattle.model.proofs.Frames.{frames-length, frame-at}
+use Rattle.model.proofs.Cutting.{map-at, Wide, wide-map}
 use Rattle.lists.specs.Changes.{changeIn, changesIn, atLeastOne, frameIn, linesIn}
-use Rattle.lists.proofs.Laying.{map-at, Wide}
 use Rattle.lists.proofs.Holding.{changes-length, changes-at}
 
 -- "nothing changed" counts as one
@@ -47,11 +47,6 @@ module _ (batch puts : ℕ) (ws : List ℕ) (i : ℕ) where
   frame-remove zero at ne a h = absurd (ne refl)
   frame-remove (suc n) at ne a h = rw a (ap (frameOf batch (suc n) i) (change-remove h))
 
-pub all-wide : (fs : List Frame) → Wide (map line fs)
-unfolding Wide
-all-wide [] = tt
-all-wide (f ∷ fs) = (line-length f, all-wide fs)
-
 module _ (batch puts : ℕ) (ws : List ℕ) where
   frames-long : (n : ℕ) → length (framesOf batch (changesIn puts ws n 0)) ≡ atLeastOne n
   unfolding framesOf changesIn
@@ -68,9 +63,9 @@ module _ (batch puts : ℕ) (ws : List ℕ) where
       frame-at batch (changesIn puts ws (suc n) 0) i (omega arith) ∙ rw (l, changes-at puts ws (suc n) 0 i h, z)
 
   module _ (n : ℕ) where
-    pub lines-wide : Wide (linesIn batch puts n ws)
+    pub lines-wide : Wide 35 (linesIn batch puts n ws)
     unfolding linesIn
-    lines-wide = all-wide (framesOf batch (changesIn puts ws n 0))
+    lines-wide = wide-map 35 line line-length (framesOf batch (changesIn puts ws n 0))
 
     pub lines-long : length (linesIn batch puts n ws) ≡ atLeastOne n
     unfolding linesIn

@@ -3,10 +3,10 @@ use mathlib.Core.Path.{_≡_, refl, ap, sym, _∙_}
 use Prim.Native.Nat.{ℕ, zero, suc, _+_, _-_, _*_, _/_, _≤_, _<_, min}
 use mathlib.Core.List.{List, [], _∷_, _++_, map, append-assoc, append-nil}
 use native.Mathlib.Omega.{arith}
-use native.Mathlib.Decide.{decLe}
 use lib.ListN.{length, getD, take, drop, length-append, length-drop}
-use lib.Seq.{take-at, take-all, drop-append-add, drop-drop, getD-drop}
+use lib.Seq.{take-at, drop-append-add, drop-drop, getD-drop}
 use Rattle.model.specs.Lists.{laid, part, over}
+use Rattle.model.proofs.Cutting.{take-min, Wide, wide-drop, laid-long}
 
 -- map, take and drop change places
 module _ {A B : Type 0} (f : A → B) where
@@ -20,19 +20,6 @@ module _ {A B : Type 0} (f : A → B) where
   drop-map (suc n) [] = refl
   drop-map (suc n) (x ∷ xs) = drop-map n xs
 
-  pub map-at : (xs : List A) (i : ℕ) (d : A) (e : B) → i < length xs → getD (map f xs) i e ≡ f (getD xs i d)
-  map-at [] i d e h = absurd (omega arith)
-  map-at (x ∷ xs) zero d e h = refl
-  map-at (x ∷ xs) (suc i) d e h = map-at xs i d e (omega arith)
-
--- no more than there are
-pub take-min : {A : Type 0} (n : ℕ) (xs : List A) → take (min n (length xs)) xs ≡ take n xs
-take-min n xs = go (decLe (length xs) n)
-  where
-    go : Dec (length xs ≤ n) → take (min n (length xs)) xs ≡ take n xs
-    go (yes p) = take-all (min n (length xs)) xs (omega arith) ∙ sym (take-all n xs p)
-    go (no p) = let e : min n (length xs) ≡ n = omega arith in ap (λ k. take k xs) e
-
 -- one piece more
 laid-more : (ps : List (List ℕ)) (i : ℕ) → i < length ps → laid (take (suc i) ps) ≡ laid (take i ps) ++ getD ps i []
 unfolding laid
@@ -40,31 +27,14 @@ laid-more [] i h = absurd (omega arith)
 laid-more (p ∷ ps) zero h = append-nil p
 laid-more (p ∷ ps) (suc i) h = rw (laid-more ps i (omega arith)) (sym (append-assoc p (laid (take i ps)) (getD ps i [])))
 
--- every piece is 35 long
-unfoldable pub Wide : List (List ℕ) → Type 0
-Wide [] = Unit {0}
-Wide (p ∷ ps) = (length p ≡ 35) × Wide ps
-
-wide-drop : (n : ℕ) (ps : List (List ℕ)) → Wide ps → Wide (drop n ps)
-unfolding Wide
-wide-drop zero ps w = w
-wide-drop (suc n) [] w = tt
-wide-drop (suc n) (p ∷ ps) w = wide-drop n ps (w .1)
-
-laid-long : (i : ℕ) (ps : List (List ℕ)) → Wide ps → i ≤ length ps → length (laid (take i ps)) ≡ 35 * i
-unfolding Wide laid
-laid-long zero ps w h = refl
-laid-long (suc i) [] w h = absurd (omega arith)
-laid-long (suc i) (p ∷ ps) w h = omega (arith, length-append p (laid (take i ps)), w .0, laid-long i ps (w .1) (omega arith))
-
 -- of the k pieces from `start` on the first i are written to out, which was o
 pub record Laid (ps : List (List ℕ)) (start k : ℕ) (o out : List ℕ) (i : ℕ) : Type 0 where
-  pub wide : Wide ps
+  pub wide : Wide 35 ps
   pub room : k ≡ min (length o / 35) (length ps - start)
   pub most : i ≤ k
   pub is : out ≡ laid (take i (drop start ps)) ++ drop (35 * i) o
 
-pub laid-none : {ps : List (List ℕ)} {start k : ℕ} {o : List ℕ} → Wide ps → k ≡ min (length o / 35) (length ps - start) → Laid ps start k o o 0
+pub laid-none : {ps : List (List ℕ)} {start k : ℕ} {o : List ℕ} → Wide 35 ps → k ≡ min (length o / 35) (length ps - start) → Laid ps start k o o 0
 unfolding laid
 laid-none w e = record { wide = w; room = e; most = omega arith; is = refl }
 
@@ -79,7 +49,7 @@ module _ {ps : List (List ℕ)} {start k : ℕ} {o out : List ℕ} {i : ℕ} (L 
   few = omega (arith, length-drop start ps, L .room, L .most)
 
   front-long : length front ≡ 35 * i
-  front-long = laid-long i q (wide-drop start ps (L .wide)) few
+  front-long = laid-long 35 i q (wide-drop 35 start ps (L .wide)) few
 
   pub laid-same : length out ≡ length o
   laid-same = rw (L .is) (omega (arith, length-append front (drop (35 * i) o), length-drop (35 * i) o, front-long, L .room, L .most))
@@ -106,24 +76,3 @@ module _ {ps : List (List ℕ)} {start k : ℕ} {o out : List ℕ} {i : ℕ} (L 
       let r : k ≡ min (length o / 35) (length q) = rw (length-drop start ps) (L .room) in
       let t : part 35 start (length o) ps ≡ front = rw (e, r) (ap laid (sym (take-min (length o / 35) q))) in
       rw (t, front-long, ← e) (refl, L .is)
-
--- piece i of k, cut out again
-pub laid-cut : (qs : List (List ℕ)) (k i : ℕ) (rest : List ℕ) → Wide qs → i < k → k ≤ length qs → take 35 (drop (35 * i) (laid (take k qs) ++ rest)) ≡ getD qs i []
-unfolding Wide laid
-laid-cut qs zero i rest w h m = absurd (omega arith)
-laid-cut [] (suc k) i rest w h m = absurd (omega arith)
-laid-cut (p ∷ qs) (suc k) zero rest w h m = rw append-assoc (take-at p (laid (take k qs) ++ rest) 35 (w .0))
-laid-cut (p ∷ qs) (suc k) (suc i) rest w h m =
-    let n : 35 * suc i ≡ length p + 35 * i = omega (arith, w .0) in
-    rw (append-assoc, n, drop-append-add p (laid (take k qs) ++ rest) (35 * i)) (laid-cut qs k i rest (w .1) (omega arith) (omega arith))
-
--- the same of a part and what stood after it
-pub part-cut : (ps : List (List ℕ)) (start : ℕ) (o : List ℕ) (i : ℕ) → Wide ps → 35 * i < length (part 35 start (length o) ps)
-    → (start + i < length ps) × (take 35 (drop (35 * i) (over (part 35 start (length o) ps) o)) ≡ getD ps (start + i) [])
-part-cut ps start o i w h =
-    let q = drop start ps in
-    let k = min (length o / 35) (length q) in
-    let t = take-min (length o / 35) q in
-    let n : length (part 35 start (length o) ps) ≡ 35 * k = rw (← t) (laid-long k q (wide-drop start ps w) (omega arith)) in
-    let c = laid-cut q k i (drop (length (part 35 start (length o) ps)) o) (wide-drop start ps w) (omega arith) (omega arith) in
-    (omega (arith, length-drop start ps), rw (t, getD-drop start ps i []) at c)

@@ -5,4 +5,3 @@ pub mod Holding
 pub mod Collecting
 pub mod Framing
 pub mod Sending
-pub mod Reading

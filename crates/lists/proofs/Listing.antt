@@ -23,7 +23,8 @@ use Rattle.walk.proofs.Outputs.{part-long}
 use Rattle.table.proofs.Admitting.{Admission, two-known}
 use Rattle.lists.specs.Reports.{refused}
 use Rattle.lists.proofs.Reporting.{Begun, lists-deep, lists-done}
-use Rattle.lists.proofs.Laying.{take-map, drop-map, take-min}
+use Rattle.model.proofs.Cutting.{take-min}
+use Rattle.lists.proofs.Laying.{take-map, drop-map}
 
 -- what a walk's answer says
 module _ (w : Wanted) (k : Walk) where

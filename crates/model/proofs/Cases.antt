@@ -14,6 +14,7 @@ use Rattle.model.specs.Delta.{Change, changed, puts, removes, delta}
 use Rattle.model.specs.Heap.{load, tree, version, freeFrom, free}
 use Rattle.model.specs.Block.{heap}
 use Rattle.model.specs.Frame.{Frame, digit, value, digits, number, line, kindLegal, legal, fields, parse, nothing, frameOf, numbered, framesOf, frames}
+use Rattle.model.specs.Numbers.{SHAPE, DAMAGED, VERSION, RULE, NO_ROOM, TOO_DEEP, FRAME, BATCH, COUNT}
 use Rattle.model.specs.Calls.{freshBlock}
 use Rattle.model.specs.Lists.{rowWords, laid, part, listed, framed}
 use Rattle.model.proofs.Small.{before, amid}
@@ -198,6 +199,7 @@ table =
     }
     ∷ record { number = 0; shown = writes (line example); told = writes bytes }
     ∷ record { number = 0; shown = reads (parse bytes); told = reads (some example) }
+    ∷ record { number = 0; shown = writes (SHAPE ∷ DAMAGED ∷ VERSION ∷ RULE ∷ NO_ROOM ∷ TOO_DEEP ∷ FRAME ∷ BATCH ∷ COUNT ∷ []); told = writes (1 ∷ 2 ∷ 3 ∷ 4 ∷ 5 ∷ 6 ∷ 7 ∷ 8 ∷ 9 ∷ []) }
     ∷ record { number = 0; shown = writes (freshBlock 32); told = writes (32 ∷ replicate 273 0) }
     ∷ record { number = 0; shown = stands (version (heap amid) 0); told = stands (node 4 1 10 leaf (node 3 2 4294967295 leaf leaf)) }
     ∷ record { number = 0; shown = writes (free (heap amid)); told = writes (1 ∷ freeFrom (λ n. false) 5 28) }

@@ -48,6 +48,7 @@ pub mod Listings
 pub mod Picks
 pub mod Deltas
 pub mod DeltaRoom
+pub mod Cutting
 -- Frames, inbox, replica
 pub mod Digits
 pub mod Lines
@@ -57,6 +58,7 @@ pub mod Missing
 pub mod Replicas
 pub mod Receiving
 pub mod Standbys
+pub mod Reading
 pub mod Possible
 -- The calls
 pub mod Checks

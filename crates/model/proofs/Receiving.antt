@@ -23,25 +23,26 @@ pub record Belongs (x : List ℕ) (f : Frame) : Type 0 where
   pub batch : f .batch ≡ batchOf x
   pub counts : (countOf x ≡ 0) ⊎ (countOf x ≡ f .count)
 
--- accepted: the answer has as missing what the inbox then lacks
-pub record Accepted (s : Step) : Type 0 where
+-- accepted, as a repeat (1) or not (0): the answer has as missing what the inbox then lacks
+pub record Accepted (s : Step) (n : ℕ) : Type 0 where
   pub number : s .answer .number ≡ 0
+  pub again : s .answer .again ≡ n
   pub missing : s .answer .missing ≡ missing (s .inbox′)
 
 -- what comes of a line that says o
 pub data Outcome (s : Step) (v : ℕ) (o : Option Frame) : Type 0 where
   away : s .answer .number ≢ 0 → s .block′ ≡ s .block → s .inbox′ ≡ s .inbox → Outcome s v o
-  again : (f : Frame) → o ≡ some f → Belongs (s .inbox) f → heardAt (s .inbox) (f .index) ≡ true → Accepted s
+  again : (f : Frame) → o ≡ some f → Belongs (s .inbox) f → heardAt (s .inbox) (f .index) ≡ true → Accepted s 1
       → s .block′ ≡ s .block → s .inbox′ ≡ s .inbox → Outcome s v o
-  new : (f : Frame) → o ≡ some f → Belongs (s .inbox) f → heardAt (s .inbox) (f .index) ≡ false → Accepted s
+  new : (f : Frame) → o ≡ some f → Belongs (s .inbox) f → heardAt (s .inbox) (f .index) ≡ false → Accepted s 0
       → Edited (s .block) (s .block′) v (frameRule f (version (heap (s .block)) v) (supply (heap (s .block))) .0) → s .inbox′ ≡ marked (s .inbox) (f .count) (f .index) → Outcome s v o
 
 module _ (s : Step) (v : ℕ) where
   turned : {n : ℕ} {o : Option Frame} → turnedAway s (suc n) → Outcome s v o
   turned {n} u = away (λ z. let e : suc n ≡ 0 = sym (ap (λ (a : Heard). a .number) (u .0)) ∙ z in omega arith) (u .1) (u .2)
 
-  accepted : {n : ℕ} (y : List ℕ) → s .answer ≡ record { number = 0; again = n; missing = missing y } → s .inbox′ ≡ y → Accepted s
-  accepted y e x = record { number = ap (λ (a : Heard). a .number) e; missing = ap (λ (a : Heard). a .missing) e ∙ ap missing (sym x) }
+  accepted : {n : ℕ} (y : List ℕ) → s .answer ≡ record { number = 0; again = n; missing = missing y } → s .inbox′ ≡ y → Accepted s n
+  accepted y e x = record { number = ap (λ (a : Heard). a .number) e; again = ap (λ (a : Heard). a .again) e; missing = ap (λ (a : Heard). a .missing) e ∙ ap missing (sym x) }
 
   taken : (f : Frame) → Belongs (s .inbox) f → (heard : Bool) → heardAt (s .inbox) (f .index) ≡ heard → Takes s v f heard → Outcome s v (some f)
   taken f B true e u = again f refl B e (accepted (s .inbox) (u .0) (u .2)) (u .1) (u .2)
@@ -139,7 +140,7 @@ missing-answers x n m X (passes p (passes q u)) = u .0
 pub receive-reports : (s : Step) (v : ℕ) (line : List ℕ) → SoundInbox (s .inbox) → Receive s v line → s .answer .number ≡ 0 → Missing (s .inbox′) 0 (s .answer .missing)
 receive-reports s v line X R z = go (receive-outcome s v line R)
   where
-    asked : Accepted s → SoundInbox (s .inbox′) → countOf (s .inbox′) ≢ 0 → Missing (s .inbox′) 0 (s .answer .missing)
+    asked : {n : ℕ} → Accepted s n → SoundInbox (s .inbox′) → countOf (s .inbox′) ≢ 0 → Missing (s .inbox′) 0 (s .answer .missing)
     asked A Y ne = passes (Y .long) (passes Y (refl, A .missing ∙ sym (question-known (s .inbox′) ne)))
 
     legal : (f : Frame) → parse line ≡ some f → Legal f

@@ -14,7 +14,7 @@ use Rattle.model.specs.Block.{heap, SoundBlock}
 use Rattle.model.specs.Frame.{Frame, parse, framesOf, frameAt, frames}
 use Rattle.model.specs.Inbox.{heardAt, begun, marked}
 use Rattle.model.specs.Link.{Missing, Step, Receive}
-use Rattle.model.specs.Replica.{Elsewhere, Hearing, still, then, Each, Some, Took, Genuine, Heeded, Replicated}
+use Rattle.model.specs.Replica.{Nothing, Elsewhere, Hearing, still, then, Each, Some, Took, Genuine, Heeded, Replicated}
 use Rattle.model.proofs.Sorts.{ordered-sorted}
 use Rattle.model.proofs.Versions.{version-ordered}
 use Rattle.model.proofs.Listings.{versions-one-heap}
@@ -86,9 +86,21 @@ module _ {batch : ℕ} {es fs : List Entry} {cs : List Change} (D : Sending batc
     stepped : Stepped s line
     stepped = step (receive-outcome s v line R)
 
+    told : (i : ℕ) → i < length sent → Took sent i s line → ((heardAt (s .inbox) i ≡ false) × (s .answer .again ≡ 0)) ⊎ ((heardAt (s .inbox) i ≡ true) × (s .answer .again ≡ 1))
+    told i l t = go (receive-outcome s v line R)
+      where
+        at : (f : Frame) → parse line ≡ some f → f .index ≡ i
+        at f e = ap (λ (g : Frame). g .index) (same-frame f (frameAt sent i) e (t .1)) ∙ frames-count batch cs i l .index
+
+        go : Outcome s v (parse line) → ((heardAt (s .inbox) i ≡ false) × (s .answer .again ≡ 0)) ⊎ ((heardAt (s .inbox) i ≡ true) × (s .answer .again ≡ 1))
+        go (away n b x) = absurd (n (t .0))
+        go (again f e W h a b x) = inr (subst (λ j. heardAt (s .inbox) j ≡ true) (at f e) h, a .again)
+        go (new f e W h a E x) = inl (subst (λ j. heardAt (s .inbox) j ≡ false) (at f e) h, a .again)
+
     heeded : Heeded sent v s line
     heeded = record {
       reports = receive-reports s v line (F .sound) R;
+      again = told;
       only-room = λ w. belongs-only-room s v line (frameAt sent (w .0)) B (F .sound) lt R (w .2)
           (record { batch = frames-count batch cs (w .0) (w .1) .batch ∙ sym (F .same); counts = counts-agree D F (w .0) (w .1) });
       others = receive-others s v line R;
@@ -156,3 +168,13 @@ standby-replicates primary P A B batch la lb fits shallow b S v lt holds {y = y}
 
     K : Kept D v lt (begun batch) run
     K = kept-run D v lt run S (rw holds (start-follows D)) genuine
+
+-- a run with nothing between its lines is such a run
+pub undisturbed : {v : ℕ} {b x : List ℕ} {lines : List (List ℕ)} {c y : List ℕ} → Hearing Nothing v b x lines c y → Hearing (Elsewhere v) v b x lines c y
+undisturbed still = still
+undisturbed {v} (then answer n r later) = then answer (record { sound = λ S. subst SoundBlock (sym n) S; same = ap (λ z. entries (version (heap z) v)) n }) r (undisturbed later)
+
+pub undisturbed-each : (P : Step → List ℕ → Type 0) {v : ℕ} {b x : List ℕ} {lines : List (List ℕ)} {c y : List ℕ} (run : Hearing Nothing v b x lines c y) → Each P run → Each P (undisturbed run)
+unfolding Each undisturbed
+undisturbed-each P still p = tt
+undisturbed-each P (then answer n r later) p = (p .0, undisturbed-each P later (p .1))

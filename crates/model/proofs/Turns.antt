@@ -6,7 +6,7 @@ use mathlib.Core.Bool.{Bool, true, false, true≢false, _||_}
 use mathlib.Core.List.{List, [], _∷_}
 use lib.ListN.{length}
 use lib.Dec.{eqb, ltb, leb}
-use borrow.Author.Tests.{ltb-true, ltb-false, lt-ltb, le-ltb, eq-eqb}
+use borrow.Author.Tests.{ltb-true, lt-ltb, eq-eqb}
 use native.Mathlib.Omega.{arith}
 use Rattle.model.specs.Tree.{Tree, leaf, node, size, idOf}
 use Rattle.model.specs.Listing.{Item, tree, entry, Sides, Turn, over, on, yield, Walk, pend, opened, turn, tooDeep, walk, start, turns, listing, nextSides, after}
@@ -103,13 +103,24 @@ pub neither : (x y : Bool) → (x || y) ≡ false → (x ≡ false) × (y ≡ fa
 neither true y e = absurd (true≢false e)
 neither false y e = (refl, e)
 
-shallow-yield : (s t : Sides) → length (t .left) ≤ length (s .left) → length (t .right) ≤ length (s .right) → tooDeep s ≡ false → tooDeep t ≡ false
+-- more than 64 items on one side
+deep-says : (s : Sides) → (tooDeep s ≡ true) ↔ ((64 < length (s .left)) ⊎ (64 < length (s .right)))
 unfolding tooDeep
-shallow-yield s t p q e =
-    let w = neither (ltb 64 (length (s .left))) (ltb 64 (length (s .right))) e in
-    let l : length (t .left) ≤ 64 = omega (arith, ltb-false 64 (length (s .left)) (w .0)) in
-    let r : length (t .right) ≤ 64 = omega (arith, ltb-false 64 (length (s .right)) (w .1)) in
-    rw (le-ltb 64 (length (t .left)) l, le-ltb 64 (length (t .right)) r, tooDeep)
+deep-says s = (
+  (λ e. ⊎-elim (λ p. inl (ltb-true 64 (length (s .left)) p)) (λ p. inr (ltb-true 64 (length (s .right)) p)) (either (ltb 64 (length (s .left))) (ltb 64 (length (s .right))) e)),
+  ⊎-elim (λ p. rw (lt-ltb 64 (length (s .left)) p) refl) (λ p. on-right (ltb 64 (length (s .left))) p),
+)
+  where
+    on-right : (t : Bool) → 64 < length (s .right) → (t || ltb 64 (length (s .right))) ≡ true
+    on-right true p = refl
+    on-right false p = lt-ltb 64 (length (s .right)) p
+
+shallow-yield : (s t : Sides) → length (t .left) ≤ length (s .left) → length (t .right) ≤ length (s .right) → tooDeep s ≡ false → tooDeep t ≡ false
+shallow-yield s t p q e = go (tooDeep t) refl
+  where
+    go : (d : Bool) → tooDeep t ≡ d → tooDeep t ≡ false
+    go false f = f
+    go true f = absurd (true≢false (sym (deep-says s .1 (⊎-elim (λ h. inl (omega arith)) (λ h. inr (omega arith)) (deep-says t .0 f))) ∙ e))
 
 shallow-start : (a b : Tree) → tooDeep (start a b) ≡ false
 unfolding tooDeep
@@ -155,18 +166,6 @@ reached-deep (suc n) f s c e d = go (turn (s .left) (s .right)) refl (turn-falls
 pub walk-ends : (a b : Tree) (f : ℕ) → turns a b ≤ f → walk f (start a b) ≡ listing a b
 unfolding listing
 walk-ends a b f p = walk-enough f (turns a b) (start a b) (omega (arith, costs-start a b)) (costs-start a b)
-
--- more than 64 items on one side
-deep-says : (s : Sides) → (tooDeep s ≡ true) ↔ ((64 < length (s .left)) ⊎ (64 < length (s .right)))
-unfolding tooDeep
-deep-says s = (
-  (λ e. ⊎-elim (λ p. inl (ltb-true 64 (length (s .left)) p)) (λ p. inr (ltb-true 64 (length (s .right)) p)) (either (ltb 64 (length (s .left))) (ltb 64 (length (s .right))) e)),
-  ⊎-elim (λ p. rw (lt-ltb 64 (length (s .left)) p) refl) (λ p. on-right (ltb 64 (length (s .left))) p),
-)
-  where
-    on-right : (t : Bool) → 64 < length (s .right) → (t || ltb 64 (length (s .right))) ≡ true
-    on-right true p = refl
-    on-right false p = lt-ltb 64 (length (s .right)) p
 
 -- TOO_DEEP exactly when the loop, at some turn, has more than 64 items pending on one side
 pub too-deep-exactly : (a b : Tree) → (listing a b .deep ≡ true) ↔ ((n : ℕ) × ((64 < length (after n (start a b) .left)) ⊎ (64 < length (after n (start a b) .right))))

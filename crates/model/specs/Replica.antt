@@ -2,6 +2,7 @@
 use mathlib.Core.Path.{_≡_}
 use mathlib.Core.Logic.{_≢_, _⊎_, _↔_}
 use Prim.Native.Nat.{ℕ, _<_}
+use mathlib.Core.Bool.{true, false}
 use mathlib.Core.Option.{some}
 use mathlib.Core.List.{List, [], _∷_}
 use lib.ListN.{length}
@@ -9,7 +10,7 @@ use Rattle.model.specs.Tree.{Tree, entries, find}
 use Rattle.model.specs.Heap.{version}
 use Rattle.model.specs.Block.{heap, SoundBlock}
 use Rattle.model.specs.Frame.{Frame, parse, frames, frameAt}
-use Rattle.model.specs.Inbox.{SoundInbox, begun, Complete}
+use Rattle.model.specs.Inbox.{heardAt, SoundInbox, begun, Complete}
 use Rattle.model.specs.Numbers.{NO_ROOM}
 use Rattle.model.specs.Link.{Missing, Heard, Step, Receive}
 
@@ -54,6 +55,8 @@ Genuine fs s line = s .answer .number ≡ 0 → OneOf fs line
 pub record Heeded (fs : List Frame) (v : ℕ) (s : Step) (line : List ℕ) : Type 0 where
   -- answered 0, it has as missing what the question on its own would then answer
   pub reports : s .answer .number ≡ 0 → Missing (s .inbox′) 0 (s .answer .missing)
+  -- it says whether the frame is new (0) or a repeat (1)
+  pub again : (i : ℕ) → i < length fs → Took fs i s line → ((heardAt (s .inbox) i ≡ false) × (s .answer .again ≡ 0)) ⊎ ((heardAt (s .inbox) i ≡ true) × (s .answer .again ≡ 1))
   -- one of the frames is refused only for room
   pub only-room : OneOf fs line → (s .answer .number ≡ 0) ⊎ (s .answer .number ≡ NO_ROOM)
   -- no other version changes
