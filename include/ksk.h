@@ -3,7 +3,8 @@
  * Every call answers a number, 0 for done. A refusal leaves every lent word and byte as it was, and sets every field
  * behind a pointer to 0; the one exception is a ledger's `table`, which holds the table's number beside KSK_LOOKUP and
  * KSK_EDIT_REFUSED. A slice is a pointer and a length, in words or in bytes; a slice of length 0 may have any
- * pointer that is not NULL. No two slices or pointers of one call may overlap.
+ * pointer that is not NULL. Pointers are aligned for what they point to, and no two slices or pointers of one call may
+ * overlap. While a call runs no other thread may use what it is lent, and its thread must have KSK_STACK_BYTES of stack.
  */
 #ifndef KSK_H
 #define KSK_H
@@ -46,6 +47,7 @@ extern "C" {
 #define KSK_ENTRY_WORDS    4u  /* a listing's entry: key, left value, 1 if common else 0, right value or 0 */
 #define KSK_LINE_BYTES     35u /* a frame's line: 34 digits and a newline */
 #define KSK_UNKNOWN        4294967295u /* what ksk_missing gives while the count is unknown */
+#define KSK_STACK_BYTES    1310720u /* what a thread must have left on its stack when it makes a call; oracle/stack/run holds every call to it */
 
 /* 0 for a sound block, else KSK_SHAPE or KSK_DAMAGED: what every call but ksk_fresh asks first. */
 uint32_t ksk_audit(const uint32_t *block, size_t words);
