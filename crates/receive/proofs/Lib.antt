@@ -1,3 +1,5 @@
 pub mod Feeding
 pub mod Hearing
 pub mod Keeping
+pub mod Sounding
+pub mod Texts

@@ -1,15 +1,20 @@
 // The receiving program: the lines on standard input are heard into version 0 of an empty block; its entries are printed, then how many frames are missing.
+use block::read;
+use block::root;
 use frame::put_hex;
 use inbox::begin;
 use inbox::question;
 use link::parse;
-use lists::entries::listing;
 ghost use mathlib.Core.Path.{_≡_};
-ghost use Prim.Native.Nat.{ℕ, _≤_};
+ghost use Prim.Native.Nat.{ℕ, _+_, _*_, _≤_};
 ghost use mathlib.Core.List.{List, [], _∷_, _++_};
 ghost use lib.ListN.{length, take};
-ghost use Rattle.model.specs.Frame.{digits};
+ghost use Rattle.model.specs.Tree.{entries};
+ghost use Rattle.model.specs.Heap.{Named, Linked, sizeAt, tree};
+ghost use Rattle.model.specs.Block.{heap, room, Shaped, SoundBlock};
+ghost use Rattle.model.specs.Inbox.{SoundInbox};
 ghost use Rattle.receive.specs.Lines.{Keeps, Runs, state, Fed, FedSome, HearsSome};
+ghost use Rattle.receive.specs.Text.{entryLine, entryLines, textOf, Reports};
 
 const NEWLINE: u8 = 10;
 
@@ -130,53 +135,56 @@ fn read_all(b: &mut [u32], x: &mut [u32])
     }
 }
 
-// Key, then value, 16 digits.
-fn entry_line(key: u32, value: u32) -> [u8; 17]
-    ensures { λ r. ⌜ r ≡ digits 8 key ++ digits 8 value ++ 10 ∷ [] ⌝ }
+// Bytes from `at` on: an entry, key then value, 16 digits and a newline.
+fn put_entry(out: &mut [u8], at: usize, key: u32, value: u32)
+    requires { ⌜ at + 17 ≤ length (now out) ⌝ }
+    ensures { λ _. ⌜ take (at + 17) (now (out .exit)) ≡ take at (now (out .entry)) ++ entryLine (key, value) ⌝ }
 {
-    let mut out = [NEWLINE; 17];
-    put_hex(&mut out, 0, 8, key);
-    put_hex(&mut out, 8, 8, value);
-    out
+    put_hex(out, at, 8, key);
+    put_hex(out, at + 8, 8, value);
+    out[at + 16] = NEWLINE;
 }
 
-fn missing_line(missing: u32) -> [u8; 9]
-    ensures { λ r. ⌜ r ≡ digits 8 missing ++ 10 ∷ [] ⌝ }
+// Bytes from `at` on: the entries of the tree below n, ascending. Where the next byte goes.
+fn put_entries(b: &[u32], n: u32, out: &mut [u8], at: usize) -> usize
+    requires { ⌜ Shaped (now b) × Linked (heap (now b)) × Named (heap (now b)) n × (at + 17 * sizeAt (heap (now b)) n ≤ length (now out)) ⌝ }
+    ensures { λ r. ⌜ (r ≡ at + 17 * sizeAt (heap (now (b .entry))) n) × (take r (now (out .exit)) ≡ take at (now (out .entry)) ++ entryLines (entries (tree (heap (now (b .entry))) n))) ⌝ }
 {
-    let mut out = [NEWLINE; 9];
-    put_hex(&mut out, 0, 8, missing);
-    out
-}
-
-// Four words an entry, of which the first two are key and value.
-fn print_entries(words: &[u32]) {
-    let mut i: usize = 0;
-    while i + 4 <= words.len() {
-        let line = entry_line(words[i], words[i + 1]);
-        io::write_all(1, &line);
-        i += 4;
+    if n == 0 {
+        return at;
     }
+    let node = read(b, n);
+    let middle = put_entries(b, node.left, out, at);
+    put_entry(out, middle, node.key, node.value);
+    put_entries(b, node.right, out, middle + 17)
 }
 
-// Version 15 is never written, so it is empty; against it all entries of version 0 are listed, at most one a node.
-fn print_version(b: &[u32]) {
-    let mut out = [0u32; 8192];
-    let mut number = 0;
-    let mut total = 0;
-    let words = listing(b, 0, 15, 0, &mut out, &mut number, &mut total);
-    print_entries(words);
+// The text: the entries of version 0, then how many lines are missing. How many bytes it has: a version has at most 2,016 entries.
+fn write_text(b: &[u32], x: &[u32], out: &mut [u8]) -> usize
+    requires { ⌜ SoundBlock (now b) × (room (now b) ≡ 2016) × SoundInbox (now x) × (length (now out) ≡ 34281) ⌝ }
+    ensures { λ r. ⌜ (r ≤ 34281) × (take r (now (out .exit)) ≡ textOf (now (b .entry)) (now (x .entry))) ⌝ }
+{
+    let at = put_entries(b, root(b, 0), out, 0);
+    put_hex(out, at, 8, question(x).missing);
+    out[at + 8] = NEWLINE;
+    at + 9
 }
 
-fn print_missing(x: &[u32]) {
-    let line = missing_line(question(x).missing);
-    io::write_all(1, &line);
+// All that the program does but for the write at its end: from a fresh block and an inbox that has heard nothing, the text after the lines on standard input.
+fn report(b: &mut [u32], x: &mut [u32], out: &mut [u8]) -> usize
+    requires { ⌜ (length (now b) ≡ 16208) × (length (now x) ≡ 130) × (length (now out) ≡ 34281) ⌝ }
+    ensures { λ r. ⌜ (r ≤ 34281) × Reports (take r (now (out .exit))) ⌝ }
+{
+    table::fresh(b, 2016);
+    begin(x, 0);
+    read_all(b, x);
+    write_text(b, x, out)
 }
 
 fn main() {
     let mut b = [0u32; 16208];
-    table::fresh(&mut b, 2016);
     let mut x = [0u32; 130];
-    read_all(&mut b, &mut x);
-    print_version(&b);
-    print_missing(&x);
+    let mut out = [0u8; 34281];
+    let n = report(&mut b, &mut x, &mut out);
+    io::write_all(1, &out[0..n]);
 }
