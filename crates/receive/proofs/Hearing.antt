@@ -11,7 +11,7 @@ use Rattle.model.specs.Frame.{Frame, parse}
 use Rattle.model.specs.Inbox.{begun}
 use Rattle.model.specs.Link.{Parse, Begin, Heard, Receive}
 use Rattle.model.specs.Replica.{Nothing, Hearing, still, then}
-use Rattle.model.specs.Calls.{fails, passes}
+use Rattle.model.proofs.Refusals.{begin-begins}
 use Rattle.receive.specs.Lines.{Runs, idle, waits, begins, hears}
 
 -- no line
@@ -42,14 +42,9 @@ runs-waits {n = n} f line e P ne = rw e (waits (said (parse line) P) idle)
     said none P = refl
     said (some h) P = absurd (ne (P .0))
 
--- an inbox made ready
-pub begun-new : {x z : List ℕ} {m : ℕ} (batch : ℕ) → length x ≡ 130 → Begin x z batch m → z ≡ begun batch
-begun-new batch long (fails n _) = absurd (n long)
-begun-new batch long (passes _ p) = p .1
-
 -- and the first that is well formed
 pub runs-begins : {b x z c y : List ℕ} {g : Bool} {n m : ℕ} (f : Frame) (line : List ℕ) (a : Heard) → g ≡ false → Parse (parse line) n f → n ≡ 0 → length x ≡ 130 → Begin x z (f .batch) m → Receive (record { block = b; inbox = z; block′ = c; inbox′ = y; answer = a }) 0 line → Runs b x g (line ∷ []) c y true
-runs-begins {b = b} {x = x} {z = z} {c = c} {y = y} {n = n} {m = m} f line a e P zero-n long B r = rw e (begins f (said (parse line) P) (then a refl (subst (λ (w : List ℕ). Receive (record { block = b; inbox = w; block′ = c; inbox′ = y; answer = a }) 0 line) (begun-new (f .batch) long B) r) still))
+runs-begins {b = b} {x = x} {z = z} {c = c} {y = y} {n = n} {m = m} f line a e P zero-n long B r = rw e (begins f (said (parse line) P) (then a refl (subst (λ (w : List ℕ). Receive (record { block = b; inbox = w; block′ = c; inbox′ = y; answer = a }) 0 line) (begin-begins (f .batch) long B .1) r) still))
   where
     said : (o : Option Frame) → Parse o n f → o ≡ some f
     said none P = absurd (let q = P .0 in omega (arith, q, zero-n))

@@ -2,7 +2,7 @@
 use borrow.Author.Needs.{needs}
 use Rattle.model.specs.Inbox.{begun}
 use Rattle.model.specs.Calls.{freshBlock}
-use Rattle.receive.proofs.Hearing.{begun-new}
+use Rattle.model.proofs.Refusals.{begin-begins}
 use Rattle.receive.specs.Lines.{HearsSome}
 use Rattle.receive.proofs.Sounding.{fresh-is, hears-from, well-heard}
 use Rattle.receive.proofs.report.Statement.{statement}
@@ -14,7 +14,7 @@ heard c =
     let g = c .before .before .before .before .before in
     let f = g .before .before .before .before in
     let p = f .before .before .before .before .before .pre in
-    hears-from (fresh-is (p .0) (f .fresh .ensures)) (begun-new 0 (p .1) (g .begin .ensures)) (c .read-all .ensures)
+    hears-from (fresh-is (p .0) (f .fresh .ensures)) (begin-begins 0 (p .1) (g .begin .ensures) .1) (c .read-all .ensures)
 
 fresh-requires : tie.Need-fresh-requires
 fresh-requires c κs = search needs
