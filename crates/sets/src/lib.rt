@@ -1,7 +1,6 @@
 // The union and the difference of two trees.
 use crate::values::kept;
-use crate::values::merge_left;
-use crate::values::merge_right;
+use crate::values::merged;
 use block::Found;
 use block::Made;
 use block::apart::take_apart;
@@ -10,18 +9,36 @@ use join::Parted;
 use join::join;
 use join::split;
 use join::without_key;
+ghost use mathlib.Core.Path.{_≡_};
 ghost use Prim.Native.Nat.{_+_, _<_};
-ghost use Rattle.model.specs.Heap.{Named, sizeAt, tree};
-ghost use Rattle.model.specs.Block.{heap};
+ghost use lib.Dec.{leb};
+ghost use Rattle.model.specs.Heap.{Named, Linked, sizeAt, tree};
+ghost use Rattle.model.specs.Block.{heap, Shaped};
 ghost use mathlib.Core.List.{[], _∷_};
 ghost use Rattle.model.specs.Moves.{Holding};
 ghost use Rattle.model.specs.Rules.{rest, difference, mergeBy, diffBy};
 ghost use Rattle.block.specs.Outcome.{Outcome, answer};
-ghost use Rattle.sets.specs.United.{United};
+ghost use Rattle.sets.specs.United.{United, picked};
 
 mod values;
 
-// Takes the larger tree's root, the left's on equal sizes, so that the smaller is the one split.
+// The first of two numbers, or the second.
+fn pick(first: bool, x: u32, y: u32) -> u32
+    ensures { λ r. ⌜ r ≡ picked first x y ⌝ }
+{
+    if first { x } else { y }
+}
+
+// Whether the left tree is at least as large as the right.
+fn left_first(b: &[u32], left: u32, right: u32) -> bool
+    requires { ⌜ Shaped (now b) × Linked (heap (now b)) × Named (heap (now b)) left × Named (heap (now b)) right ⌝ }
+    ensures { λ r. ⌜ r ≡ leb (sizeAt (heap (now (b .entry))) right) (sizeAt (heap (now (b .entry))) left) ⌝ }
+{
+    size_at(b, right) <= size_at(b, left)
+}
+
+// Takes the larger tree's root, the left's on equal sizes, so that the smaller is the one split; parts are united as (left, right) whichever root it was.
+// Both ways are one code: with its calls written twice a level takes 288 bytes of stack in place of 208, and a chain has 4,096 levels.
 pub fn union(b: &mut [u32], rule: u32, left: u32, right: u32) -> Made
     requires { ⌜ Holding (now b) (left ∷ right ∷ []) × Named (heap (now b)) left × Named (heap (now b)) right × (sizeAt (heap (now b)) left + sizeAt (heap (now b)) right < 1048576) ⌝ }
     ensures { λ r. ⌜ United (now (b .entry)) (now (b .exit)) r (mergeBy rule) left right ⌝ }
@@ -32,34 +49,26 @@ pub fn union(b: &mut [u32], rule: u32, left: u32, right: u32) -> Made
     if right == 0 {
         return Made::At(left);
     }
-    if size_at(b, left) >= size_at(b, right) {
-        let l = take_apart(b, left);
-        let Parted::Into(r) = split(b, right, l.key) else {
-            return Made::Full;
-        };
-        let found = r.found;
-        let value = merge_left(rule, l.value, found);
-        let Made::At(new_left) = union(b, rule, l.left, r.left) else {
-            return Made::Full;
-        };
-        let Made::At(new_right) = union(b, rule, l.right, r.right) else {
-            return Made::Full;
-        };
-        return join(b, l.key, value, new_left, new_right);
-    }
-    let r = take_apart(b, right);
-    let Parted::Into(l) = split(b, left, r.key) else {
+    let first = left_first(b, left, right);
+    let root = pick(first, left, right);
+    let other = pick(first, right, left);
+    let n = take_apart(b, root);
+    let Parted::Into(p) = split(b, other, n.key) else {
         return Made::Full;
     };
-    let found = l.found;
-    let value = merge_right(rule, found, r.value);
-    let Made::At(new_left) = union(b, rule, l.left, r.left) else {
+    let found = p.found;
+    let value = merged(rule, first, n.value, found);
+    let x = pick(first, n.left, p.left);
+    let y = pick(first, p.left, n.left);
+    let Made::At(new_left) = union(b, rule, x, y) else {
         return Made::Full;
     };
-    let Made::At(new_right) = union(b, rule, l.right, r.right) else {
+    let z = pick(first, n.right, p.right);
+    let w = pick(first, p.right, n.right);
+    let Made::At(new_right) = union(b, rule, z, w) else {
         return Made::Full;
     };
-    join(b, r.key, value, new_left, new_right)
+    join(b, n.key, value, new_left, new_right)
 }
 
 // The two sides with the root's entry between them where it stays, else without it.

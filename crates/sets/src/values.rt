@@ -3,6 +3,7 @@ use block::Found;
 ghost use mathlib.Core.Path.{_≡_};
 ghost use Rattle.model.specs.Rules.{mergedLeft, mergedRight, kept, mergeBy, diffBy};
 ghost use Rattle.block.specs.Outcome.{answer};
+ghost use Rattle.sets.specs.United.{merged};
 
 // Union rules: 0 left, 1 right, 2 smaller, 3 larger, 4 sum held at 4,294,967,295, which is asked before the sum could exceed it.
 fn merge(rule: u32, x: u32, y: u32) -> u32
@@ -27,7 +28,7 @@ fn merge(rule: u32, x: u32, y: u32) -> u32
 }
 
 // The value of a left key, merged where the right has the key.
-pub fn merge_left(rule: u32, x: u32, right: Found) -> u32
+fn merge_left(rule: u32, x: u32, right: Found) -> u32
     ensures { λ r. ⌜ r ≡ mergedLeft (mergeBy rule) x (answer right) ⌝ }
 {
     match right {
@@ -37,13 +38,23 @@ pub fn merge_left(rule: u32, x: u32, right: Found) -> u32
 }
 
 // The value of a right key, merged as (left value, right value) where the left has the key.
-pub fn merge_right(rule: u32, left: Found, y: u32) -> u32
+fn merge_right(rule: u32, left: Found, y: u32) -> u32
     ensures { λ r. ⌜ r ≡ mergedRight (mergeBy rule) (answer left) y ⌝ }
 {
     match left {
         Found::Value(x) => merge(rule, x, y),
         Found::Absent => y,
     }
+}
+
+// The value of the root's key, where the other tree may have the key too; `first` says that the root is the left tree's.
+pub fn merged(rule: u32, first: bool, value: u32, other: Found) -> u32
+    ensures { λ r. ⌜ r ≡ merged first (mergeBy rule) value (answer other) ⌝ }
+{
+    if first {
+        return merge_left(rule, value, other);
+    }
+    merge_right(rule, other, value)
 }
 
 // Difference rules for a common key: 0 drop; 1 drop if equal, else left; 2 left; 3 left minus right if larger, else drop.
