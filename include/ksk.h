@@ -47,7 +47,7 @@ extern "C" {
 #define KSK_ENTRY_WORDS    4u  /* a listing's entry: key, left value, 1 if common else 0, right value or 0 */
 #define KSK_LINE_BYTES     35u /* a frame's line: 34 digits and a newline */
 #define KSK_UNKNOWN        4294967295u /* what ksk_missing gives while the count is unknown */
-#define KSK_STACK_BYTES    1310720u /* what a thread must have left on its stack when it makes a call; oracle/stack/run holds every call to it */
+#define KSK_STACK_BYTES    1048576u /* what a thread must have left on its stack when it makes a call; oracle/stack/run holds every call to it */
 
 /* 0 for a sound block, else KSK_SHAPE or KSK_DAMAGED: what every call but ksk_fresh asks first. */
 uint32_t ksk_audit(const uint32_t *block, size_t words);
