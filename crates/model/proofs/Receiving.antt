@@ -8,6 +8,7 @@ use mathlib.Core.List.{List}
 use borrow.Author.Tests.{eq-eqb, ne-eqb}
 use native.Mathlib.Omega.{arith}
 use native.Mathlib.Decide.{ℕ-discrete}
+use Rattle.model.specs.Supply.{short}
 use Rattle.model.specs.Heap.{version, supply}
 use Rattle.model.specs.Block.{heap, SoundBlock}
 use Rattle.model.specs.Frame.{Frame, parse}
@@ -34,7 +35,7 @@ pub data Outcome (s : Step) (v : ℕ) (o : Option Frame) : Type 0 where
   away : s .answer .number ≢ 0 → s .block′ ≡ s .block → s .inbox′ ≡ s .inbox → Outcome s v o
   again : (f : Frame) → o ≡ some f → Belongs (s .inbox) f → heardAt (s .inbox) (f .index) ≡ true → Accepted s 1
       → s .block′ ≡ s .block → s .inbox′ ≡ s .inbox → Outcome s v o
-  new : (f : Frame) → o ≡ some f → Belongs (s .inbox) f → heardAt (s .inbox) (f .index) ≡ false → Accepted s 0
+  new : (f : Frame) → o ≡ some f → Belongs (s .inbox) f → heardAt (s .inbox) (f .index) ≡ false → Accepted s 0 → short (frameRule f (version (heap (s .block)) v) (supply (heap (s .block))) .1) ≡ false
       → Edited (s .block) (s .block′) v (frameRule f (version (heap (s .block)) v) (supply (heap (s .block))) .0) → s .inbox′ ≡ marked (s .inbox) (f .count) (f .index) → Outcome s v o
 
 module _ (s : Step) (v : ℕ) where
@@ -47,7 +48,7 @@ module _ (s : Step) (v : ℕ) where
   taken : (f : Frame) → Belongs (s .inbox) f → (heard : Bool) → heardAt (s .inbox) (f .index) ≡ heard → Takes s v f heard → Outcome s v (some f)
   taken f B true e u = again f refl B e (accepted (s .inbox) (u .0) (u .2)) (u .1) (u .2)
   taken f B false e (fails p u) = turned u
-  taken f B false e (passes p u) = new f refl B e (accepted (marked (s .inbox) (f .count) (f .index)) (u .0) (u .2)) (u .1) (u .2)
+  taken f B false e (passes p u) = new f refl B e (accepted (marked (s .inbox) (f .count) (f .index)) (u .0) (u .2)) p (u .1) (u .2)
 
   says-outcome : (o : Option Frame) → Says s v o → Outcome s v o
   says-outcome none u = turned u
@@ -93,7 +94,7 @@ module _ (s : Step) (v : ℕ) where
       go : Outcome s v (parse line) → (s .block′ ≡ s .block) × (s .inbox′ ≡ s .inbox)
       go (away n b x) = (b, x)
       go (again f e B h a b x) = (b, x)
-      go (new f e B h a E x) = absurd (foreign f e (B .batch))
+      go (new f e B h a r E x) = absurd (foreign f e (B .batch))
 
   -- no other version changes
   pub receive-others : (line : List ℕ) → Receive s v line → (w : ℕ) → w < 16 → w ≢ v → version (heap (s .block′)) w ≡ version (heap (s .block)) w
@@ -102,7 +103,7 @@ module _ (s : Step) (v : ℕ) where
       go : Outcome s v (parse line) → version (heap (s .block′)) w ≡ version (heap (s .block)) w
       go (away n b x) = ap (λ z. version (heap z) w) b
       go (again f e B h a b x) = ap (λ z. version (heap z) w) b
-      go (new f e B h a E x) = E .others w lt ne
+      go (new f e B h a r E x) = E .others w lt ne
 
 -- a line that says f is legal, so an index that is not heard may be marked
 pub line-markable : {x : List ℕ} (line : List ℕ) (f : Frame) → SoundInbox x → parse line ≡ some f → Belongs x f → heardAt x (f .index) ≡ false → Markable x (f .count) (f .index)
@@ -151,6 +152,6 @@ receive-reports s v line X R z = go (receive-outcome s v line R)
     go (again f e B h a b x) =
         let L = legal f e in
         asked a (subst SoundInbox (sym x) X) (λ none. false≢true (sym (X .clear (f .index) (omega (arith, ap countOf x)) (omega (arith, L .most, L .below))) ∙ h))
-    go (new f e B h a E x) =
+    go (new f e B h a r E x) =
         let M = line-markable line f X e B h in
         asked a (subst SoundInbox (sym x) (marked-sound M)) (λ none. omega (arith, ap countOf x, marked-count M, legal f e .least))

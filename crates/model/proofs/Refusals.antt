@@ -13,13 +13,15 @@ use Rattle.model.specs.Tree.{height, lookup}
 use Rattle.model.specs.Supply.{short}
 use Rattle.model.specs.Rules.{remove}
 use Rattle.model.specs.Heap.{version, free, supply}
-use Rattle.model.specs.Block.{heap, Shaped, SoundBlock}
-use Rattle.model.specs.Inbox.{begun}
+use Rattle.model.specs.Block.{room, heap, Shaped, SoundBlock}
+use Rattle.model.specs.Frame.{Frame, parse}
+use Rattle.model.specs.Inbox.{heardAt, SoundInbox, begun}
 use Rattle.model.specs.Numbers.{SHAPE, DAMAGED, VERSION, RULE, NO_ROOM}
 use Rattle.model.specs.Calls.{fails, passes, Answer, finding, Versions, Edit, Edits, Fitting, inserting, removing, copying, clearing, uniting, lessening}
-use Rattle.model.specs.Link.{Begin}
+use Rattle.model.specs.Link.{Begin, Heard, frameRule, Step, Takes, Says, Receive}
 use Rattle.model.proofs.Room.{insert-room, remove-room}
 use Rattle.model.proofs.Growing.{stocked-supply}
+use Rattle.model.proofs.Receiving.{Belongs, Outcome, away, again, new, receive-outcome, belongs-only-room}
 
 -- the edits that are calls
 pub data Called (b : List ℕ) : Edit → Type 0 where
@@ -163,7 +165,63 @@ fitting-ends = (
   (λ words F. omega (arith, F .whole)),
 )
 
+-- a block has its shape exactly when fresh would take its length and its N
+pub shape-fits : (b : List ℕ) → Shaped b ↔ Fitting (length b) (room b)
+shape-fits b = (
+  (λ S. record { least = S .least; most = S .most; whole = S .whole; long = S .long }),
+  (λ F. record { least = F .least; most = F .most; whole = F .whole; long = F .long }),
+)
+
 -- begin checks the length only: whatever else the 130 words are
 pub begin-begins : {x after : List ℕ} {n : ℕ} (batch : ℕ) → length x ≡ 130 → Begin x after batch n → (n ≡ 0) × (after ≡ begun batch)
 begin-begins batch e (fails p r) = absurd (p e)
 begin-begins batch e (passes p r) = r
+
+-- Receive: NO_ROOM exactly when all before it is in order, the index is not heard yet, and a make of the frame's edit finds no free node.
+pub record Crowded (s : Step) (v : ℕ) (line : List ℕ) : Type 0 where
+  pub block : SoundBlock (s .block)
+  pub inbox : SoundInbox (s .inbox)
+  pub known : v < 16
+  pub frame : Frame
+  pub said : parse line ≡ some frame
+  pub belongs : Belongs (s .inbox) frame
+  pub new : heardAt (s .inbox) (frame .index) ≡ false
+  pub short : short (frameRule frame (version (heap (s .block)) v) (supply (heap (s .block))) .1) ≡ true
+
+module _ (s : Step) (v : ℕ) (line : List ℕ) where
+  -- the answer has another number
+  no : {a : Heard} → s .answer ≡ a → a .number ≢ NO_ROOM → s .answer .number ≡ NO_ROOM → ⊥
+  no e ne z = ne (sym (ap (λ (a : Heard). a .number) e) ∙ z)
+
+  takes-crowded : (f : Frame) → SoundBlock (s .block) → SoundInbox (s .inbox) → v < 16 → parse line ≡ some f → Belongs (s .inbox) f → (h : Bool) → heardAt (s .inbox) (f .index) ≡ h
+      → Takes s v f h → s .answer .number ≡ NO_ROOM → Crowded s v line
+  takes-crowded f B X lt e W true h u z = absurd (no (u .0) (omega arith) z)
+  takes-crowded f B X lt e W false h (fails p u) z =
+      record { block = B; inbox = X; known = lt; frame = f; said = e; belongs = W; new = h; short = not-false (short (frameRule f (version (heap (s .block)) v) (supply (heap (s .block))) .1)) p }
+  takes-crowded f B X lt e W false h (passes p u) z = absurd (no (u .0) (omega arith) z)
+
+  says-crowded : SoundBlock (s .block) → SoundInbox (s .inbox) → v < 16 → (o : Option Frame) → parse line ≡ o → Says s v o → s .answer .number ≡ NO_ROOM → Crowded s v line
+  says-crowded B X lt none e u z = absurd (no (u .0) (omega arith) z)
+  says-crowded B X lt (some f) e (fails p u) z = absurd (no (u .0) (omega arith) z)
+  says-crowded B X lt (some f) e (passes p (fails q u)) z = absurd (no (u .0) (omega arith) z)
+  says-crowded B X lt (some f) e (passes p (passes q T)) z = takes-crowded f B X lt e (record { batch = p; counts = q }) (heardAt (s .inbox) (f .index)) refl T z
+
+  crowded : Receive s v line → s .answer .number ≡ NO_ROOM → Crowded s v line
+  crowded (fails p u) z = absurd (no (u .0) (omega arith) z)
+  crowded (passes a (fails p u)) z = absurd (no (u .0) (omega arith) z)
+  crowded (passes a (passes c (fails p u))) z = absurd (no (u .0) (omega arith) z)
+  crowded (passes a (passes c (passes d (fails p u)))) z = absurd (no (u .0) (omega arith) z)
+  crowded (passes a (passes c (passes d (passes e (fails p u))))) z = absurd (no (u .0) (omega arith) z)
+  crowded (passes a (passes c (passes d (passes e (passes g T))))) z = says-crowded d e g (parse line) refl T z
+
+  pub receive-no-room : Receive s v line → (s .answer .number ≡ NO_ROOM) ↔ Crowded s v line
+  receive-no-room R = (crowded R, back)
+    where
+      -- it is answered 0 or NO_ROOM, and not 0: the index is not heard, and the edit is short
+      back : Crowded s v line → s .answer .number ≡ NO_ROOM
+      back C = ⊎-elim (λ z. absurd (done z (receive-outcome s v line R))) (λ z. z) (belongs-only-room s v line (C .frame) (C .block) (C .inbox) (C .known) R (C .said) (C .belongs))
+        where
+          done : s .answer .number ≡ 0 → Outcome s v (parse line) → ⊥
+          done z (away n b x) = n z
+          done z (again f e W h a b x) = let p : f ≡ C .frame = cc (sym e ∙ C .said) in true≢false (sym h ∙ ap (λ (g : Frame). heardAt (s .inbox) (g .index)) p ∙ C .new)
+          done z (new f e W h a r E x) = let p : f ≡ C .frame = cc (sym e ∙ C .said) in true≢false (sym (C .short) ∙ ap (λ (g : Frame). short (frameRule g (version (heap (s .block)) v) (supply (heap (s .block))) .1)) (sym p) ∙ r)

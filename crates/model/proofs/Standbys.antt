@@ -53,7 +53,7 @@ module _ {batch : ℕ} {es fs : List Entry} {cs : List Change} (D : Sending batc
     step : Outcome s v (parse line) → Stepped s line
     step (away n b x) = kept b x (λ i l t. absurd (n (t .0)))
     step (again f e W h a b x) = kept b x (λ i l t. subst (λ j. heardAt (s .inbox) j ≡ true) (ap (λ (g : Frame). g .index) (same-frame f (frameAt sent i) e (t .1)) ∙ frames-count batch cs i l .index) h)
-    step (new f e W h a E x) = go (G (a .number))
+    step (new f e W h a r E x) = go (G (a .number))
       where
         go : (i : ℕ) × (i < length sent) × (parse line ≡ some (frameAt sent i)) → Stepped s line
         go (i, l, d) = record {
@@ -95,7 +95,7 @@ module _ {batch : ℕ} {es fs : List Entry} {cs : List Change} (D : Sending batc
         go : Outcome s v (parse line) → ((heardAt (s .inbox) i ≡ false) × (s .answer .again ≡ 0)) ⊎ ((heardAt (s .inbox) i ≡ true) × (s .answer .again ≡ 1))
         go (away n b x) = absurd (n (t .0))
         go (again f e W h a b x) = inr (subst (λ j. heardAt (s .inbox) j ≡ true) (at f e) h, a .again)
-        go (new f e W h a E x) = inl (subst (λ j. heardAt (s .inbox) j ≡ false) (at f e) h, a .again)
+        go (new f e W h a r E x) = inl (subst (λ j. heardAt (s .inbox) j ≡ false) (at f e) h, a .again)
 
     heeded : Heeded sent v s line
     heeded = record {
