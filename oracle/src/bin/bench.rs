@@ -15,6 +15,9 @@ use oracle::wbtree::map::look;
 use std::hint::black_box;
 use std::time::Instant;
 
+/// How many blocks of a kind take turns.
+const BLOCKS: u64 = 8;
+
 /// A call, and the block that it starts from.
 struct Scene {
     name: &'static str,
@@ -24,9 +27,9 @@ struct Scene {
 }
 
 /// Keys of a version in the order in which they are put.
-fn keys(count: u32, step: u32) -> Vec<u32> {
+fn keys(count: u32, step: u32, seed: u64) -> Vec<u32> {
     let mut keys: Vec<u32> = (0..count).map(|i| step * i).collect();
-    Random::new(count as u64).shuffle(&mut keys);
+    Random::new(count as u64 + (seed << 32)).shuffle(&mut keys);
     keys
 }
 
@@ -42,15 +45,15 @@ fn put(table: &mut Table, version: u32, keys: &[u32]) {
 }
 
 /// Version 0 with so many entries, at keys 0, 2, 4 and on.
-fn entries(n: usize, count: u32) -> Table {
+fn entries(n: usize, count: u32, seed: u64) -> Table {
     let mut table = Table::fresh(n);
-    put(&mut table, 0, &keys(count, 2));
+    put(&mut table, 0, &keys(count, 2, seed));
     table
 }
 
 /// Version 1 is version 0 with ten neighbouring values changed: at N = 2,048 there is no room for changes far apart.
-fn changed(n: usize) -> Table {
-    let mut table = entries(n, 2000);
+fn changed(n: usize, seed: u64) -> Table {
+    let mut table = entries(n, 2000, seed);
     edited(&mut table, Call::Copy { dest: 1, source: 0 });
     for key in (1000..1020).step_by(2) {
         edited(&mut table, Call::Insert { dest: 1, source: 1, key, value: 1 });
@@ -74,20 +77,21 @@ fn full(n: usize) -> Table {
 }
 
 /// Version 1 with keys 0, step, 2 step and on, of which the even ones are also in version 0.
-fn beside(n: usize, count: u32, other: u32, step: u32) -> Table {
-    let mut table = entries(n, count);
-    put(&mut table, 1, &keys(other, step));
+fn beside(n: usize, count: u32, other: u32, step: u32, seed: u64) -> Table {
+    let mut table = entries(n, count, seed);
+    put(&mut table, 1, &keys(other, step, seed));
     table
 }
 
-fn scenes(n: usize) -> Vec<Scene> {
+/// Every call once, on blocks that differ with the seed in where their keys stand.
+fn scenes(n: usize, seed: u64) -> Vec<Scene> {
     let scene = |name, table: &Table, call| {
         let mut inbox = vec![0; INBOX];
         (inbox[0], inbox[1]) = (7, 100);
         Scene { name, start: table.words(), inbox, call }
     };
-    let (few, many, pair) = (entries(n, 100), entries(n, 2000), changed(n));
-    let two = beside(n, 100, 100, 3);
+    let (few, many, pair) = (entries(n, 100, seed), entries(n, 2000, seed), changed(n, seed));
+    let two = beside(n, 100, 100, 3, seed);
     let union = Call::Union { dest: 2, left: 0, right: 1, rule: 4 };
     let difference = |cancel| Call::Difference { dest: 2, left: 0, right: 1, rule: 1, cancel };
     let insert = Call::Insert { dest: 0, source: 0, key: 77, value: 1 };
@@ -123,18 +127,18 @@ fn scenes(n: usize) -> Vec<Scene> {
         scenes.push(scene("lookup in 4,096", &full(n), Call::Lookup { version: 0, key: 76 }));
         scenes.push(scene("held in 4,096", &full(n), Call::Held { version: 0 }));
         scenes.push(scene("held between in 4,096", &full(n), Call::HeldBetween { version: 0, first: 1000, last: 3000 }));
-        scenes.push(scene("union of 2,000 and 100", &beside(n, 2000, 100, 31), union.clone()));
-        scenes.push(scene("difference of 2,000 and 100", &beside(n, 2000, 100, 31), difference(0)));
-        scenes.push(scene("union of 1,500 and its copy", &copied(n, 1500), union));
+        scenes.push(scene("union of 2,000 and 100", &beside(n, 2000, 100, 31, seed), union.clone()));
+        scenes.push(scene("difference of 2,000 and 100", &beside(n, 2000, 100, 31, seed), difference(0)));
+        scenes.push(scene("union of 1,500 and its copy", &copied(n, 1500, seed), union));
     } else {
-        scenes.push(scene("union of 2,000 and 2", &beside(n, 2000, 2, 3), union.clone()));
-        scenes.push(scene("union of 700 and its copy", &copied(n, 700), union));
+        scenes.push(scene("union of 2,000 and 2", &beside(n, 2000, 2, 3, seed), union.clone()));
+        scenes.push(scene("union of 700 and its copy", &copied(n, 700, seed), union));
     }
     scenes
 }
 
-fn copied(n: usize, count: u32) -> Table {
-    let mut table = entries(n, count);
+fn copied(n: usize, count: u32, seed: u64) -> Table {
+    let mut table = entries(n, count, seed);
     edited(&mut table, Call::Copy { dest: 1, source: 0 });
     table
 }
@@ -186,21 +190,24 @@ fn nanoseconds(work: impl FnOnce()) -> u128 {
     start.elapsed().as_nanos()
 }
 
-/// The best of many rounds. The two take turns, so that neither has the quieter machine.
-fn best(scene: &Scene, rounds: usize) -> (u128, u128) {
-    let (mut exported, mut own) = (u128::MAX, u128::MAX);
-    let mut reply = scene.call.blank();
+/// The best of many rounds over the scenes, the mean of a scene. The two take turns, so that neither has the quieter machine.
+fn best(scenes: &[&Scene], rounds: usize) -> (u128, u128) {
+    let mut best = vec![(u128::MAX, u128::MAX); scenes.len()];
     for _ in 0..rounds {
-        let (mut block, mut inbox) = (scene.start.clone(), scene.inbox.clone());
-        exported = exported.min(nanoseconds(|| exports::run_into(black_box(&mut block), &mut inbox, &scene.call, &mut reply)));
-        let (block, mut inbox, mut maps) = (scene.start.clone(), scene.inbox.clone(), look::plant(&scene.start));
-        own = own.min(nanoseconds(|| {
-            assert_eq!(passes::check(black_box(&block)), 0);
-            native(black_box(&mut maps), &mut inbox, &scene.call, &mut reply);
-        }));
-        black_box(&reply);
+        for (scene, (exported, own)) in scenes.iter().zip(&mut best) {
+            let mut reply = scene.call.blank();
+            let (mut block, mut inbox) = (scene.start.clone(), scene.inbox.clone());
+            *exported = (*exported).min(nanoseconds(|| exports::run_into(black_box(&mut block), &mut inbox, &scene.call, &mut reply)));
+            let (block, mut inbox, mut maps) = (scene.start.clone(), scene.inbox.clone(), look::plant(&scene.start));
+            *own = (*own).min(nanoseconds(|| {
+                assert_eq!(passes::check(black_box(&block)), 0);
+                native(black_box(&mut maps), &mut inbox, &scene.call, &mut reply);
+            }));
+            black_box(&reply);
+        }
     }
-    (exported, own)
+    let (exported, own) = best.iter().fold((0, 0), |(x, y), (exported, own)| (x + exported, y + own));
+    (exported / scenes.len() as u128, own / scenes.len() as u128)
 }
 
 /// Reading every word of a block once: no audit can take less.
@@ -231,7 +238,7 @@ fn operation(name: &str, start: &[u32], op: &Op, calls: &[Call; 2], rounds: usiz
 fn operations(n: usize, rounds: usize) {
     println!("\n{:42} {:>6} {:>13} {:>13}", format!("N = {n}, the ledger"), "ratio", "operation, ns", "calls, ns");
     for (count, reserve, settle) in [(100, "reserve, 100 calls open", "settle, 100 calls open"), (2000, "reserve, 2,000 calls open", "settle, 2,000 calls open")] {
-        let start = entries(n, count).words();
+        let start = entries(n, count, 0).words();
         let lookup = |key| Call::Lookup { version: 0, key };
         let insert = Call::Insert { dest: 0, source: 0, key: 77, value: 1 };
         operation(reserve, &start, &Op::Reserve { version: 0, call: 77, minutes: 1 }, &[lookup(77), insert], rounds);
@@ -242,7 +249,7 @@ fn operations(n: usize, rounds: usize) {
 
 /// Whether the exported union of two versions of k entries each, of which so many in a hundred are common, finds room beside them.
 fn finds_room(n: usize, k: u32, common: u32) -> bool {
-    let mut table = entries(n, k);
+    let mut table = entries(n, k, 0);
     let shared = k * common / 100;
     let mut keys: Vec<u32> = (0..k).map(|i| if i < shared { 2 * (i * k / shared.max(1)) } else { 2 * i + 1 }).collect();
     Random::new(u64::from(k)).shuffle(&mut keys);
@@ -268,12 +275,18 @@ fn largest_union(n: usize, common: u32) -> u32 {
 fn main() {
     let rounds = std::env::args().nth(1).map_or(500, |text| text.parse().expect("rounds is a number"));
     println!("best of {rounds}; ratio = exported call / (the original's own call + the same audit in Rust)");
+    println!("one block again and again, which the processor learns by heart, then {BLOCKS} blocks of a kind in turn");
     for n in [2048, 4096] {
-        println!("\n{:42} {:>6} {:>13} {:>13}", format!("N = {n}"), "ratio", "exported, ns", "Rust, ns");
-        for scene in scenes(n) {
-            agree(&scene);
-            let (exported, own) = best(&scene, rounds);
-            println!("{:42} {:6.2} {exported:13} {own:13}", scene.name, exported as f64 / own as f64);
+        println!("\n{:42} {:>6} {:>13} {:>13} {:>6} {:>13} {:>13}", format!("N = {n}"), "ratio", "exported, ns", "Rust, ns", "ratio", "exported, ns", "Rust, ns");
+        let all: Vec<Vec<Scene>> = (0..BLOCKS).map(|seed| scenes(n, seed)).collect();
+        for at in 0..all[0].len() {
+            let kind: Vec<&Scene> = all.iter().map(|scenes| &scenes[at]).collect();
+            kind.iter().for_each(|scene| agree(scene));
+            print!("{:42}", kind[0].name);
+            for (exported, own) in [best(&kind[..1], rounds), best(&kind, rounds.div_ceil(4))] {
+                print!(" {:6.2} {exported:13} {own:13}", exported as f64 / own as f64);
+            }
+            println!();
         }
         println!("{:42} {:>6} {:13}", "reading every word of the block", "", reading(n, rounds));
     }
