@@ -9,7 +9,7 @@ use borrow.Author.Tests.{eq-eqb, ne-eqb}
 use native.Mathlib.Omega.{arith}
 use native.Mathlib.Decide.{decLt}
 use Rattle.model.specs.Block.{width}
-use Rattle.model.specs.Heap.{Occupied, Named, sizeAt, sumAt}
+use Rattle.model.specs.Heap.{Occupied, Named, sizeAt}
 use Rattle.area.specs.Area.{areaWord, area}
 
 -- a list ends
@@ -40,10 +40,6 @@ module _ (a : List ℕ) where
       go (yes p) = (omega arith, omega arith)
       go (no p) = absurd (not-live (suc x) 0 (sym (getD-past a (width * x + 5) (omega arith))) refl o)
 
-  pub named-zero : (x : ℕ) → x ≡ 0 → Named (area a) x
-  named-zero zero e = tt
-  named-zero (suc x) e = absurd (omega arith)
-
   pub occupied-named : (x : ℕ) → Occupied (area a) x → Named (area a) x
   occupied-named zero o = tt
   occupied-named (suc x) o = o
@@ -55,7 +51,3 @@ module _ (a : List ℕ) where
   pub sizeAt-some : (x : ℕ) → x ≢ 0 → sizeAt (area a) x ≡ areaWord a 4 x
   sizeAt-some zero p = absurd (p refl)
   sizeAt-some (suc x) p = refl
-
-  pub sumAt-some : (x : ℕ) → x ≢ 0 → sumAt (area a) x ≡ area a .sum x
-  sumAt-some zero p = absurd (p refl)
-  sumAt-some (suc x) p = refl

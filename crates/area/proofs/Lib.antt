@@ -1,5 +1,10 @@
 pub mod Area
-pub mod Links
-pub mod Tallies
-pub mod Ends
-pub mod Orders
+pub mod Gathers
+pub mod Lists
+pub mod Noting
+pub mod Bounding
+pub mod Spans
+pub mod Turns
+pub mod Taking
+pub mod Inner
+pub mod Passing

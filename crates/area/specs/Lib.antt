@@ -1,2 +1,3 @@
 pub mod Area
-pub mod Order
+pub mod Notes
+pub mod Turns

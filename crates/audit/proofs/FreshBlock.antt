@@ -10,7 +10,7 @@ use native.Mathlib.Omega.{arith}
 use native.Mathlib.Nat.{zero-div}
 use native.Mathlib.Decide.{ℕ-discrete, decLt}
 use Rattle.model.specs.Tree.{leaf}
-use Rattle.area.proofs.Tallies.{zeros, at-most}
+use Rattle.audit.proofs.Words.{zeros-at}
 use Rattle.model.specs.Heap.{Occupied, Named, load, tree, version}
 use Rattle.model.specs.Block.{word, room, width, nodeWord, bit, occupiedAt, heap, Shaped, SoundBlock}
 use Rattle.model.specs.Calls.{Fitting, freshBlock}
@@ -28,7 +28,7 @@ fresh-room n = refl
 fresh-zero : (n i : ℕ) → 1 ≤ i → word (freshBlock n) i ≡ 0
 unfolding freshBlock
 fresh-zero n zero p = absurd (omega arith)
-fresh-zero n (suc i) p = omega (arith, at-most (replicate (16 + n / 32 + width * n) 0) 0 i (zeros (16 + n / 32 + width * n)))
+fresh-zero n (suc i) p = zeros-at (16 + n / 32 + width * n) i
 
 fresh-long : (n : ℕ) → length (freshBlock n) ≡ 17 + n / 32 + width * n
 unfolding freshBlock

@@ -13,11 +13,10 @@ use Rattle.model.specs.Tree.{Ordered}
 use Rattle.model.specs.Heap.{Heap, Occupied, Named, sizeAt, sumAt, load, tree, refs, Linked, Kept, Sound}
 use Rattle.model.specs.Block.{word, room, width, nodeWord, twoWords, occupiedAt, heap, Shaped, SoundBlock}
 use Rattle.model.proofs.Steps.{refs-unoccupied}
-use Rattle.model.specs.Tells.{Tells, Each}
-use Rattle.area.specs.Area.{areaWord, area, AreaOk, LinkTally}
-use Rattle.model.proofs.Tells.{tells-map}
+use Rattle.model.specs.Tells.{Each}
+use Rattle.area.specs.Area.{areaWord, area, AreaOk}
 use Rattle.area.proofs.Area.{getD-past, within-area}
-use Rattle.audit.specs.Whole.{nodesOf, RootsOk, RootTally, CountsOk}
+use Rattle.audit.specs.Whole.{nodesOf, upTo, Cut}
 
 -- the area with the block's roots
 abbrev withRoots : List ℕ → (ℕ → ℕ) → Heap
@@ -59,59 +58,47 @@ module _ (a : List ℕ) (R : ℕ → ℕ) where
   sum-roots (suc n) = refl
 
 -- what the audit finds
-pub record Parts (b a : List ℕ) : Type 0 where
+pub record Parts (b a : List ℕ) (m : ℕ) : Type 0 where
   pub area-ok : AreaOk (area a)
-  pub marks : Each 0 (room b) (λ n. occupiedAt b n ≡ area a .occupied n)
-  pub roots : RootsOk b a 16
-  pub counts : Each 0 (room b) (λ n. areaWord a 5 n ≡ refs (heap b) n)
+  pub marks : Each 0 m (λ n. occupiedAt b n ≡ area a .occupied n)
+  pub roots : (v : ℕ) → v < 16 → Named (area a) (word b (1 + v))
+  pub counts : Each 0 m (λ n. areaWord a 5 n ≡ refs (upTo (heap b) m) n)
 
-module _ (b a : List ℕ) (B : Shaped b) (ea : a ≡ nodesOf b) where
-  pub area-long : length a ≡ width * room b
-  area-long = rw ea (length-drop (17 + room b / 32) b ∙ omega (arith, B .long))
-
-  word-is : (j n : ℕ) → nodeWord b j n ≡ areaWord a j n
-  word-is j zero = refl
-  word-is j (suc n) = rw ea (ap (word b) (omega arith) ∙ sym (getD-drop (17 + room b / 32) b (width * n + j) 0))
-
-  room-is : room b ≡ length a / width
-  room-is = omega (arith, area-long)
+module _ (b a : List ℕ) (m : ℕ) (C : Cut b a m) where
+  room-is : m ≡ length a / width
+  room-is = omega (arith, C .long)
 
   abbrev roots : ℕ → ℕ
   roots = λ v. word b (1 + v)
 
-  module _ (marks : Each 0 (room b) (λ n. occupiedAt b n ≡ area a .occupied n)) where
+  module _ (marks : Each 0 m (λ n. occupiedAt b n ≡ area a .occupied n)) where
     occupied-is : (n : ℕ) → occupiedAt b n ≡ area a .occupied n
     occupied-is zero = refl
-    occupied-is (suc n) = go (decLt n (room b))
+    occupied-is (suc n) = go (decLt n m)
       where
-        go : Dec (n < room b) → occupiedAt b (suc n) ≡ area a .occupied (suc n)
+        go : Dec (n < m) → occupiedAt b (suc n) ≡ area a .occupied (suc n)
         go (yes p) = marks (suc n) (omega arith) (omega arith)
-        go (no p) = rw (le-ltb n (room b) (omega arith)) (sym (rw (eq-eqb (getD a (width * n + 5) 0) 0 (getD-past a (width * n + 5) (omega (arith, area-long))))))
+        go (no p) = C .free (suc n) (omega arith) ∙ sym (rw (eq-eqb (getD a (width * n + 5) 0) 0 (getD-past a (width * n + 5) (omega (arith, C .long)))))
 
-    heap-is : heap b ≡ withRoots a roots
+    heap-is : upTo (heap b) m ≡ withRoots a roots
     heap-is = λ i. record {
       room = room-is i;
       root = roots;
       occupied = λ n. occupied-is n i;
-      key = λ n. word-is 0 n i;
-      value = λ n. word-is 1 n i;
-      left = λ n. word-is 2 n i;
-      right = λ n. word-is 3 n i;
-      size = λ n. word-is 4 n i;
-      count = λ n. word-is 5 n i;
-      sum = λ n. twoWords (word-is 6 n i) (word-is 7 n i);
+      key = λ n. C .words 0 n i;
+      value = λ n. C .words 1 n i;
+      left = λ n. C .words 2 n i;
+      right = λ n. C .words 3 n i;
+      size = λ n. C .words 4 n i;
+      count = λ n. C .words 5 n i;
+      sum = λ n. twoWords (C .words 6 n i) (C .words 7 n i);
     }
 
-    refs-is : (n : ℕ) → refs (heap b) n ≡ refs (withRoots a roots) n
+    refs-is : (n : ℕ) → refs (upTo (heap b) m) n ≡ refs (withRoots a roots) n
     refs-is n = ap (λ h. refs h n) heap-is
 
-    -- the tally at the end
-    tallied : (s t : List ℕ) → LinkTally a s (length a / width) → RootTally b s t 16 → (n : ℕ) → 1 ≤ n → getD t n 0 ≡ refs (heap b) n
-    unfolding RootTally refs
-    tallied s t S T n p = omega (arith, S .at n p, T n, refs-is n)
-
-  parts-sound : Parts b a → SoundBlock b
-  parts-sound P = record { shaped = B; sound = subst Sound (sym (heap-is (P .marks))) sound }
+  pub parts-sound : Parts b a m → Sound (upTo (heap b) m)
+  parts-sound P = subst Sound (sym (heap-is (P .marks))) sound
     where
       L : Linked (area a)
       L = P .area-ok .linked
@@ -135,7 +122,7 @@ module _ (b a : List ℕ) (B : Shaped b) (ea : a ≡ nodesOf b) where
           go (no e) = omega arith
 
       counts : (n : ℕ) → Occupied (area a) n → areaWord a 5 n ≡ refs (withRoots a roots) n
-      counts n o = let w = within-area a (room b) n area-long o in P .counts n (w .0) (w .1) ∙ refs-is (P .marks) n
+      counts n o = let w = within-area a m n (C .long) o in P .counts n (w .0) (w .1) ∙ refs-is (P .marks) n
 
       sound : Sound (withRoots a roots)
       sound = record {
@@ -143,7 +130,7 @@ module _ (b a : List ℕ) (B : Shaped b) (ea : a ≡ nodesOf b) where
         ordered = λ n o. subst Ordered (sym (tree-roots a roots n)) (P .area-ok .ordered n o);
       }
 
-  pub sound-parts : SoundBlock b → Parts b a
+  pub sound-parts : Sound (upTo (heap b) m) → Parts b a m
   sound-parts S = record {
     area-ok = record { linked = linked; ordered = λ n o. subst Ordered (tree-roots a roots n) (T .ordered n o) };
     marks = marks;
@@ -151,18 +138,18 @@ module _ (b a : List ℕ) (B : Shaped b) (ea : a ≡ nodesOf b) where
     counts = counts;
   }
     where
-      K : Kept (heap b)
-      K = S .sound .kept
+      K : Kept (upTo (heap b) m)
+      K = S .kept
 
-      marks : Each 0 (room b) (λ n. occupiedAt b n ≡ area a .occupied n)
+      marks : Each 0 m (λ n. occupiedAt b n ≡ area a .occupied n)
       marks i p q = go (occupiedAt b i) refl
         where
           go : (o : Bool) → occupiedAt b i ≡ o → occupiedAt b i ≡ area a .occupied i
-          go true o = o ∙ sym (rw (ne-eqb (areaWord a 5 i) 0 (λ z. absurd (omega (arith, K .held i o, word-is 5 i)))))
-          go false o = o ∙ sym (rw (eq-eqb (areaWord a 5 i) 0 (sym (word-is 5 i) ∙ K .linked .blank i p q o .count)))
+          go true o = o ∙ sym (rw (ne-eqb (areaWord a 5 i) 0 (λ z. absurd (omega (arith, K .held i o, C .words 5 i)))))
+          go false o = o ∙ sym (rw (eq-eqb (areaWord a 5 i) 0 (sym (C .words 5 i) ∙ K .linked .blank i p q o .count)))
 
       T : Sound (withRoots a roots)
-      T = subst Sound (heap-is marks) (S .sound)
+      T = subst Sound (heap-is marks) S
 
       linked : Linked (area a)
       linked = let L = T .kept .linked in record {
@@ -175,20 +162,9 @@ module _ (b a : List ℕ) (B : Shaped b) (ea : a ≡ nodesOf b) where
         blank = λ n p q z. let Z = L .blank n p q z in record { key = Z .key; value = Z .value; left = Z .left; right = Z .right; size = Z .size; count = Z .count; sum = Z .sum };
       }
 
-      counts : Each 0 (room b) (λ n. areaWord a 5 n ≡ refs (heap b) n)
+      counts : Each 0 m (λ n. areaWord a 5 n ≡ refs (upTo (heap b) m) n)
       counts i p q = go (occupiedAt b i) refl
         where
-          go : (o : Bool) → occupiedAt b i ≡ o → areaWord a 5 i ≡ refs (heap b) i
-          go true o = sym (word-is 5 i) ∙ K .counts i o
-          go false o = omega (arith, word-is 5 i, K .linked .blank i p q o .count, refs-unoccupied (heap b) i (K .linked) p o)
-
-  -- the last test decides, once the area and the roots have passed
-  pub last-answer : (n : ℕ) (s t : List ℕ) (r : Bool) → n ≡ room b → AreaOk (area a) → RootsOk b a 16 → LinkTally a s (length a / width) → RootTally b s t 16
-      → Tells r (CountsOk b a t 0 n) → Tells r (SoundBlock b)
-  last-answer n s t r e A R S T = tells-map r
-      (λ C. let M : Each 0 (room b) (λ i. occupiedAt b i ≡ area a .occupied i) = λ i p q. C i p (omega arith) .mark in parts-sound (record { area-ok = A; marks = M; roots = R; counts = λ i p q. C i p (omega arith) .count ∙ tallied M s t S T i p }))
-      (λ Z i p q. let P = sound-parts Z in record { mark = P .marks i p (omega arith); count = P .counts i p (omega arith) ∙ sym (tallied (P .marks) s t S T i p) })
-
--- the part that code takes
-pub part-is : (b : List ℕ) (n : ℕ) → n ≡ room b → take (length b - (17 + n / 32)) (drop (17 + n / 32) b) ≡ nodesOf b
-part-is b n e = take-all (length b - (17 + n / 32)) (drop (17 + n / 32) b) (le-of-eq (length-drop (17 + n / 32) b)) ∙ ap (λ k. drop (17 + k / 32) b) e
+          go : (o : Bool) → occupiedAt b i ≡ o → areaWord a 5 i ≡ refs (upTo (heap b) m) i
+          go true o = sym (C .words 5 i) ∙ K .counts i o
+          go false o = omega (arith, C .words 5 i, K .linked .blank i p q o .count, refs-unoccupied (upTo (heap b) m) i (K .linked) p o)

@@ -2,7 +2,7 @@
 use borrow.Author.Needs.{needs}
 use native.Mathlib.Omega.{arith}
 use Rattle.model.proofs.Tells.{tells-yes, tells-no}
-use Rattle.audit.proofs.Parts.{part-is}
+use Rattle.audit.proofs.Cuts.{part-is}
 use Rattle.audit.proofs.audit.Statement.{statement}
 use Rattle.audit.proofs.audit.Tie as tie
 
