@@ -1,12 +1,12 @@
-//! Blocks that both audits must judge alike.
+//! Blocks that all three audits must judge alike.
 
 use crate::blocks::{self, Block, Random};
-use crate::{exported, grow, passes};
+use crate::{exported, grow, passes, sizes};
 
-/// The answer, which is the same on both sides.
+/// The answer, which all three give.
 fn judged(b: &[u32], what: &str) -> u32 {
     let answer = passes::check(b);
-    assert_eq!(exported(b), answer, "{what}, N = {}", b.first().unwrap_or(&0));
+    assert_eq!((exported(b), sizes::check(b)), (answer, answer), "{what}, N = {}", b.first().unwrap_or(&0));
     answer
 }
 
@@ -24,7 +24,7 @@ impl Count {
     }
 
     fn tell(&self, what: &str) {
-        println!("{} {what}, {} of them sound: both audits give the same answer each time", self.all, self.sound);
+        println!("{} {what}, {} of them sound: all three audits give the same answer each time", self.all, self.sound);
     }
 }
 

@@ -1,9 +1,10 @@
-//! The exported audit beside the same passes in safe Rust: answers on damaged blocks, and times.
+//! The exported audit beside two in safe Rust, the same passes (sizes) and plainer ones (passes): answers on damaged blocks, and times.
 
 mod blocks;
 mod compare;
 mod grow;
 mod passes;
+mod sizes;
 mod times;
 
 unsafe extern "C" {

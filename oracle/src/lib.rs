@@ -20,6 +20,9 @@ pub mod wbtree;
 #[path = "../audit/passes.rs"]
 pub mod passes;
 
+#[path = "../audit/sizes.rs"]
+pub mod sizes;
+
 #[allow(dead_code)]
 #[path = "../eqlog/eqlog-runtime/src/prefix_tree.rs"]
 pub mod prefix_tree;

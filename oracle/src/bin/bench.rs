@@ -6,10 +6,10 @@ use oracle::fast;
 use oracle::frame::{Frame, INBOX};
 use oracle::ledger::{self, Op};
 use oracle::original::{self, Map};
-use oracle::passes;
 use oracle::plain;
 use oracle::rules::{Supply, Tree};
 use oracle::random::Random;
+use oracle::sizes;
 use oracle::table::Table;
 use oracle::wbtree::map::look;
 use std::hint::black_box;
@@ -200,7 +200,7 @@ fn best(scenes: &[&Scene], rounds: usize) -> (u128, u128) {
             *exported = (*exported).min(nanoseconds(|| exports::run_into(black_box(&mut block), &mut inbox, &scene.call, &mut reply)));
             let (block, mut inbox, mut maps) = (scene.start.clone(), scene.inbox.clone(), look::plant(&scene.start));
             *own = (*own).min(nanoseconds(|| {
-                assert_eq!(passes::check(black_box(&block)), 0);
+                assert_eq!(sizes::check(black_box(&block)), 0);
                 native(black_box(&mut maps), &mut inbox, &scene.call, &mut reply);
             }));
             black_box(&reply);
