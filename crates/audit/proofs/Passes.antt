@@ -18,10 +18,10 @@ use Rattle.model.proofs.Bound.{size-room}
 use Rattle.model.proofs.Tells.{tells-map}
 use Rattle.area.specs.Area.{areaWord, area, AreaOk}
 use Rattle.area.specs.Notes.{Zeros, Fair, note, Upto, Noted}
-use Rattle.area.specs.Turns.{links, Ready, Backed, Trees}
+use Rattle.area.specs.Turns.{Goes, links, Ready, Backed, Trees}
 use Rattle.area.proofs.Area.{getD-past, live, dead, not-live, within-area, occupied-named}
 use Rattle.area.proofs.Taking.{hits-most}
-use Rattle.audit.specs.Whole.{upTo, Cut, MarkOk, MarksOk, RootsOk, RootsTaken}
+use Rattle.audit.specs.Whole.{upTo, Cut, MarkOk, MarksOk, RootsOk, RootsTaken, Begun}
 use Rattle.audit.proofs.Words.{eight}
 use Rattle.audit.proofs.Parts.{Parts, parts-sound, sound-parts}
 
@@ -115,7 +115,7 @@ module _ (b a : List ℕ) (n : ℕ) (C : Cut b a n) where
           zeros = λ o. blank-zero a i (P .area-ok .linked .blank i p (omega (arith, C .long)) (sym (P .marks i p q) ∙ o));
         }
 
-    pub sound-roots : (t : List ℕ) → Upto t (areaWord a 5) n → RootsOk b n t 16
+    sound-roots : (t : List ℕ) → Upto t (areaWord a 5) n → RootsOk b n t 16
     sound-roots t U = record {
       within = λ v lt. named-within (root v) (K .linked .roots v lt);
       fits = λ y p. omega (arith, count-noted t U y, all-counts y p, refs-are y);
@@ -125,11 +125,24 @@ module _ (b a : List ℕ) (n : ℕ) (C : Cut b a n) where
         named-within zero m = omega arith
         named-within (suc x) m = K .linked .within (suc x) m .1
 
-    pub sound-trees : (t u : List ℕ) → Upto t (areaWord a 5) n → RootsTaken b t u 16 → Trees a n u
-    sound-trees t u U T = record { area-ok = sound-parts b a n C S .area-ok; fits = λ y p. omega (arith, count-noted t U y, all-counts y p, refs-are y, T y p) }
+    -- u has what the links need
+    module _ (u : List ℕ) (left : (y : ℕ) → 1 ≤ y → getD u y 0 + hits root y 16 ≡ areaWord a 5 y) where
+      links-left : (y : ℕ) → 1 ≤ y → links a n y ≡ getD u y 0
+      links-left y p = omega (arith, left y p, all-counts y p, refs-are y)
 
-    sound-zeros : (t u v : List ℕ) → Upto t (areaWord a 5) n → RootsTaken b t u 16 → ((y : ℕ) → 1 ≤ y → getD v y 0 + links a n y ≡ getD u y 0) → Zeros v 1 n
-    sound-zeros t u v U T W i lt = omega (arith, count-noted t U (1 + i), all-counts (1 + i) (omega arith), refs-are (1 + i), T (1 + i) (omega arith), W (1 + i) (omega arith))
+      pub sound-trees : Trees a n u
+      sound-trees = record { area-ok = sound-parts b a n C S .area-ok; fits = λ y p. omega (arith, links-left y p) }
+
+      sound-zeros : (v : List ℕ) → ((y : ℕ) → 1 ≤ y → getD v y 0 + links a n y ≡ getD u y 0) → Zeros v 1 n
+      sound-zeros v W i lt = omega (arith, links-left (1 + i) (omega arith), W (1 + i) (omega arith))
+
+  begun : {lo sn hd t u : List ℕ} → MarksOk b a 0 n → Noted a lo sn hd t n → RootsTaken b t u 16 → Begun b a n lo sn hd u
+  begun {t = t} M N T = record { marks = M; keys = N .keys; notes = N .notes; heads = N .heads; left = λ y p. T y p ∙ count-noted t (N .counts) y }
+
+  -- the roots decide whether the passes go on
+  pub begun-goes : {lo sn hd t : List ℕ} (u : List ℕ) → MarksOk b a 0 n → Noted a lo sn hd t n → (r : Bool) → Tells r (RootsOk b n t 16) → (r ≡ true → RootsTaken b t u 16) → Goes r (Sound h) (Begun b a n lo sn hd u)
+  begun-goes u M N true R T = begun M N (T refl)
+  begun-goes {t = t} u M N false R T = λ S. R (sound-roots S t (N .counts))
 
   module _ (M : MarksOk b a 0 n) where
     marks-agree : Each 0 n (λ i. occupiedAt b i ≡ area a .occupied i)
@@ -148,22 +161,23 @@ module _ (b a : List ℕ) (n : ℕ) (C : Cut b a n) where
       notes = U;
     }
 
-    pub backed : (t u : List ℕ) → Upto t (areaWord a 5) n → RootsTaken b t u 16 → Backed a u
-    backed t u U T y p f = live a y (areaWord a 5 y) refl (λ z. absurd (omega (arith, count-noted t U y, T y p)))
+    module _ (u : List ℕ) (left : (y : ℕ) → 1 ≤ y → getD u y 0 + hits root y 16 ≡ areaWord a 5 y) where
+      pub backed : Backed a u
+      backed y p f = live a y (areaWord a 5 y) refl (λ z. absurd (omega (arith, left y p)))
 
-    -- the last pass decides
-    pub last-tells : (t u v : List ℕ) → Upto t (areaWord a 5) n → RootsOk b n t 16 → RootsTaken b t u 16 → AreaOk (area a) → ((y : ℕ) → 1 ≤ y → getD v y 0 + links a n y ≡ getD u y 0) → (r : Bool) → Tells r (Zeros v 1 n) → Tells r (Sound h)
-    last-tells t u v U R T A W r = tells-map r (λ Z. parts-sound b a n C (parts Z)) (λ S. sound-zeros S t u v U T W)
-      where
-        counts : Zeros v 1 n → Each 0 n (λ i. areaWord a 5 i ≡ refs h i)
-        counts Z zero p q = absurd (omega arith)
-        counts Z (suc i) p q =
-            let e : 1 + i ≡ suc i = omega arith in
-            omega (arith, count-noted t U (suc i), refs-are (suc i), T (suc i) p, W (suc i) p, ap (λ y. getD v y 0) (sym e) ∙ Z i (omega arith))
+      -- the last pass decides
+      pub last-tells : (v : List ℕ) → AreaOk (area a) → ((y : ℕ) → 1 ≤ y → getD v y 0 + links a n y ≡ getD u y 0) → (r : Bool) → Tells r (Zeros v 1 n) → Tells r (Sound h)
+      last-tells v A W r = tells-map r (λ Z. parts-sound b a n C (parts Z)) (λ S. sound-zeros S u left v W)
+        where
+          counts : Zeros v 1 n → Each 0 n (λ i. areaWord a 5 i ≡ refs h i)
+          counts Z zero p q = absurd (omega arith)
+          counts Z (suc i) p q =
+              let e : 1 + i ≡ suc i = omega arith in
+              omega (arith, left (suc i) p, refs-are (suc i), W (suc i) p, ap (λ y. getD v y 0) (sym e) ∙ Z i (omega arith))
 
-        named : (x : ℕ) → 1 ≤ hits root x 16 → Named (area a) x
-        named zero h = tt
-        named (suc x) h = live a (suc x) (areaWord a 5 (suc x)) refl (λ z. absurd (omega (arith, count-noted t U (suc x), R .fits (suc x) (omega arith))))
+          named : (x : ℕ) → 1 ≤ hits root x 16 → Named (area a) x
+          named zero k = tt
+          named (suc x) k = live a (suc x) (areaWord a 5 (suc x)) refl (λ z. absurd (omega (arith, left (suc x) (omega arith))))
 
-        parts : Zeros v 1 n → Parts b a n
-        parts Z = record { area-ok = A; marks = marks-agree; roots = λ v lt. named (root v) (hits-some root (root v) 16 v lt refl); counts = counts Z }
+          parts : Zeros v 1 n → Parts b a n
+          parts Z = record { area-ok = A; marks = marks-agree; roots = λ v lt. named (root v) (hits-some root (root v) 16 v lt refl); counts = counts Z }

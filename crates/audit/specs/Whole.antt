@@ -8,7 +8,7 @@ use Rattle.model.specs.Heap.{Heap, hits}
 use Rattle.model.specs.Block.{word, room, width, nodeWord, occupiedAt, Shaped}
 use Rattle.model.specs.Tells.{Each}
 use Rattle.area.specs.Area.{areaWord, area}
-use Rattle.area.specs.Notes.{Fair}
+use Rattle.area.specs.Notes.{Fair, note, Upto, Heads}
 
 -- the words of a block from its first node word
 abbrev pub nodesOf : List ℕ → List ℕ
@@ -59,3 +59,11 @@ RootsTaken b t u k = (y : ℕ) → 1 ≤ y → getD u y 0 + hits (λ v. word b (
 -- a list of zeros
 abbrev pub AllZero : List ℕ → Type 0
 AllZero t = (x : ℕ) → getD t x 0 ≡ 0
+
+-- after the first pass and the roots: every node is fair or zeros and noted, and in t its count is less by the roots that name it
+pub record Begun (b a : List ℕ) (n : ℕ) (lo sn hd t : List ℕ) : Type 0 where
+  pub marks : MarksOk b a 0 n
+  pub keys : Upto lo (areaWord a 0) n
+  pub notes : Upto sn (note (areaWord a 4)) n
+  pub heads : Heads a hd n
+  pub left : (y : ℕ) → 1 ≤ y → getD t y 0 + hits (λ v. word b (1 + v)) y 16 ≡ areaWord a 5 y

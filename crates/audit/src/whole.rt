@@ -15,7 +15,8 @@ ghost use Rattle.model.specs.Heap.{Sound};
 ghost use Rattle.model.specs.Block.{word, room, width, heap, Shaped, SoundBlock};
 ghost use Rattle.model.specs.Tells.{Tells};
 ghost use Rattle.area.specs.Notes.{Arrays, Noted};
-ghost use Rattle.audit.specs.Whole.{nodesOf, upTo, Cut, MarkOk, MarksOk, RootsOk, RootsTaken, AllZero};
+ghost use Rattle.area.specs.Turns.{Goes};
+ghost use Rattle.audit.specs.Whole.{nodesOf, upTo, Cut, MarkOk, MarksOk, RootsOk, RootsTaken, AllZero, Begun};
 
 // Node i + 1, whose occupancy bit is m: noted, or zeros.
 fn node_ok(
@@ -126,26 +127,39 @@ fn roots_ok(b: &[u32], n: usize, t: &mut [u16]) -> bool
     true
 }
 
-// The passes one after another, in arrays of zeros that have a place for each node.
-fn passes_ok(
+// The first pass, and the roots taken from the counts that it noted, in arrays of zeros. Called for each length of arrays, so that it and the next stay functions of their own, with registers for their pointers.
+fn begun_ok(
+    b: &[u32],
+    a: &[u32],
+    n: usize,
+    lo: &mut [u32],
+    sn: &mut [u32],
+    hd: &mut [u16],
+    t: &mut [u16],
+) -> bool
+    requires { ⌜ Cut (now b) (now a) n × Arrays n (now lo) (now sn) (now hd) (now t) × AllZero (now lo) × AllZero (now sn) × AllZero (now hd) × AllZero (now t) ⌝ }
+    ensures { λ r. ⌜ Goes r (Sound (upTo (heap (now (b .entry))) n)) (Begun (now (b .entry)) (now (a .entry)) n (now (lo .exit)) (now (sn .exit)) (now (hd .exit)) (now (t .exit))) ⌝ }
+{
+    if !words_ok(b, a, n, lo, sn, hd, t) {
+        return false;
+    }
+    roots_ok(b, n, t)
+}
+
+// The second pass, and whether every count has come down to 0.
+fn ended_ok(
     b: &[u32],
     a: &[u32],
     n: usize,
     lo: &mut [u32],
     hi: &mut [u32],
-    sn: &mut [u32],
-    hd: &mut [u16],
+    sn: &[u32],
+    hd: &[u16],
     t: &mut [u16],
 ) -> bool
-    requires { ⌜ Cut (now b) (now a) n × Arrays n (now lo) (now sn) (now hd) (now t) × (n < length (now hi)) × AllZero (now lo) × AllZero (now hi) × AllZero (now sn) × AllZero (now hd) × AllZero (now t) ⌝ }
+    requires { ⌜ Cut (now b) (now a) n × Arrays n (now lo) (now sn) (now hd) (now t) × (n < length (now hi)) × AllZero (now hi) × Begun (now b) (now a) n (now lo) (now sn) (now hd) (now t) ⌝ }
     ensures { λ r. ⌜ Tells r (Sound (upTo (heap (now (b .entry))) n)) ⌝ }
 {
-    if !words_ok(b, a, n, lo, sn, hd, t) {
-        return false;
-    }
-    if !roots_ok(b, n, t) {
-        return false;
-    }
     if !trees_ok(a, n, lo, hi, sn, hd, t) {
         return false;
     }
@@ -162,7 +176,10 @@ fn few_ok(b: &[u32], a: &[u32], n: usize) -> bool
     let mut sn = [0u32; 513];
     let mut hd = [0u16; 521];
     let mut t = [0u16; 513];
-    passes_ok(b, a, n, &mut lo, &mut hi, &mut sn, &mut hd, &mut t)
+    if !begun_ok(b, a, n, &mut lo, &mut sn, &mut hd, &mut t) {
+        return false;
+    }
+    ended_ok(b, a, n, &mut lo, &mut hi, &sn, &hd, &mut t)
 }
 
 // Up to 2,048 nodes.
@@ -175,7 +192,10 @@ fn half_ok(b: &[u32], a: &[u32], n: usize) -> bool
     let mut sn = [0u32; 2049];
     let mut hd = [0u16; 2057];
     let mut t = [0u16; 2049];
-    passes_ok(b, a, n, &mut lo, &mut hi, &mut sn, &mut hd, &mut t)
+    if !begun_ok(b, a, n, &mut lo, &mut sn, &mut hd, &mut t) {
+        return false;
+    }
+    ended_ok(b, a, n, &mut lo, &mut hi, &sn, &hd, &mut t)
 }
 
 // Up to 4,096 nodes.
@@ -188,7 +208,10 @@ fn many_ok(b: &[u32], a: &[u32], n: usize) -> bool
     let mut sn = [0u32; 4097];
     let mut hd = [0u16; 4105];
     let mut t = [0u16; 4097];
-    passes_ok(b, a, n, &mut lo, &mut hi, &mut sn, &mut hd, &mut t)
+    if !begun_ok(b, a, n, &mut lo, &mut sn, &mut hd, &mut t) {
+        return false;
+    }
+    ended_ok(b, a, n, &mut lo, &mut hi, &sn, &hd, &mut t)
 }
 
 // The passes on n nodes. Smaller arrays are sooner filled with zeros.

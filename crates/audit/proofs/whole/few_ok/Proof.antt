@@ -1,36 +1,33 @@
 -- The arrays are zeros, and long enough.
+use mathlib.Core.Path.{_∙_}
 use Prim.Native.Nat.{ℕ}
 use lib.ListN.{length-replicate}
 use native.Mathlib.Omega.{arith}
+use Rattle.area.proofs.Passing.{goes-yes, goes-no}
 use Rattle.audit.proofs.Words.{zeros-at}
 use borrow.Author.Needs.{needs}
 use Rattle.audit.proofs.whole.few_ok.Statement.{statement}
 use Rattle.audit.proofs.whole.few_ok.Tie as tie
 
-slice-aggregate-passes-ok : tie.Need-slice-aggregate-passes-ok
-slice-aggregate-passes-ok c = search needs
+slice-aggregate-begun-ok : tie.Need-slice-aggregate-begun-ok
+slice-aggregate-begun-ok c = search needs
 
-slice-aggregate-passes-ok-2 : tie.Need-slice-aggregate-passes-ok-2
-slice-aggregate-passes-ok-2 c = search needs
+slice-aggregate-begun-ok-2 : tie.Need-slice-aggregate-begun-ok-2
+slice-aggregate-begun-ok-2 c = search needs
 
-slice-aggregate-passes-ok-3 : tie.Need-slice-aggregate-passes-ok-3
-slice-aggregate-passes-ok-3 c = search needs
+slice-aggregate-begun-ok-3 : tie.Need-slice-aggregate-begun-ok-3
+slice-aggregate-begun-ok-3 c = search needs
 
-slice-aggregate-passes-ok-4 : tie.Need-slice-aggregate-passes-ok-4
-slice-aggregate-passes-ok-4 c = search needs
+slice-aggregate-begun-ok-4 : tie.Need-slice-aggregate-begun-ok-4
+slice-aggregate-begun-ok-4 c = search needs
 
-slice-aggregate-passes-ok-5 : tie.Need-slice-aggregate-passes-ok-5
-slice-aggregate-passes-ok-5 c = search needs
-
-passes-ok-requires : tie.Need-passes-ok-requires
-passes-ok-requires c κs =
-    let st = c .before .before .before .before .before .before .before in
+begun-ok-requires : tie.Need-begun-ok-requires
+begun-ok-requires c κs =
+    let p = c .before .before .before .before .before .before .pre in
     let l = length-replicate {A = ℕ} 513 0 in
-    let p = st .pre in (
+    (
       p .0,
       record { most = omega (arith, p .1); los = omega (arith, l, p .1); sns = omega (arith, l, p .1); hds = omega (arith, length-replicate {A = ℕ} 521 0, p .1); ts = omega (arith, l, p .1) },
-      omega (arith, l, p .1),
-      zeros-at 513,
       zeros-at 513,
       zeros-at 513,
       zeros-at 521,
@@ -38,16 +35,55 @@ passes-ok-requires c κs =
     )
 
 returns : tie.Need-returns
-returns c = search needs
+returns c =
+    let k = c .before .before .before .before .before .begun-ok in
+    goes-no _ (k .result) (k .ensures) (c .if1 .taken)
+
+slice-aggregate-ended-ok : tie.Need-slice-aggregate-ended-ok
+slice-aggregate-ended-ok c = search needs
+
+slice-aggregate-ended-ok-2 : tie.Need-slice-aggregate-ended-ok-2
+slice-aggregate-ended-ok-2 c = search needs
+
+slice-aggregate-ended-ok-3 : tie.Need-slice-aggregate-ended-ok-3
+slice-aggregate-ended-ok-3 c = search needs
+
+slice-aggregate-ended-ok-4 : tie.Need-slice-aggregate-ended-ok-4
+slice-aggregate-ended-ok-4 c = search needs
+
+slice-aggregate-ended-ok-5 : tie.Need-slice-aggregate-ended-ok-5
+slice-aggregate-ended-ok-5 c = search needs
+
+ended-ok-requires : tie.Need-ended-ok-requires
+ended-ok-requires c κs =
+    let p = c .before .before .before .before .before .before .before .before .before .before .before .before .before .before .before .before .before .pre in
+    let l = length-replicate {A = ℕ} 513 0 in
+    let k = c .before .before .before .before .before .before .before .before .before .before .begun-ok in
+    (
+      p .0,
+      record { most = omega (arith, p .1); los = omega (arith, l, k .kept .1 .1 .1 .0, p .1); sns = omega (arith, l, k .kept .1 .1 .1 .1 .0, p .1); hds = omega (arith, length-replicate {A = ℕ} 521 0, k .kept .1 .1 .1 .1 .1 .0, p .1); ts = omega (arith, l, k .kept .1 .1 .1 .1 .1 .1 .0, p .1) },
+      omega (arith, l, p .1),
+      zeros-at 513,
+      goes-yes _ (k .result) (k .ensures) (c .before .before .before .before .before .if1 .left),
+    )
+
+returns-2 : tie.Need-returns-2
+returns-2 c = search needs
 
 pub few-ok-spec : {M : Type 1} → statement M
 few-ok-spec =
     tie.close
     (tie.spec
-    slice-aggregate-passes-ok
-    slice-aggregate-passes-ok-2
-    slice-aggregate-passes-ok-3
-    slice-aggregate-passes-ok-4
-    slice-aggregate-passes-ok-5
-    passes-ok-requires
-    returns)
+    slice-aggregate-begun-ok
+    slice-aggregate-begun-ok-2
+    slice-aggregate-begun-ok-3
+    slice-aggregate-begun-ok-4
+    begun-ok-requires
+    returns
+    slice-aggregate-ended-ok
+    slice-aggregate-ended-ok-2
+    slice-aggregate-ended-ok-3
+    slice-aggregate-ended-ok-4
+    slice-aggregate-ended-ok-5
+    ended-ok-requires
+    returns-2)
