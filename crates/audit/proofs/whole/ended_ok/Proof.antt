@@ -16,8 +16,7 @@ trees-ok-requires c κs =
     let n = st .args .n in
     let C = st .pre .0 in
     let A = st .pre .1 in
-    let G = st .pre .4 in
-    (
+    let G = st .pre .4 in (
       ready b a n C (G .marks) (st .args .sn .now) (G .notes),
       record { los = A .los; his = st .pre .2; sns = A .sns; ts = A .ts },
       G .heads,

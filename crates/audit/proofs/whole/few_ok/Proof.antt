@@ -24,8 +24,7 @@ slice-aggregate-begun-ok-4 c = search needs
 begun-ok-requires : tie.Need-begun-ok-requires
 begun-ok-requires c κs =
     let p = c .before .before .before .before .before .before .pre in
-    let l = length-replicate {A = ℕ} 513 0 in
-    (
+    let l = length-replicate {A = ℕ} 513 0 in (
       p .0,
       record { most = omega (arith, p .1); los = omega (arith, l, p .1); sns = omega (arith, l, p .1); hds = omega (arith, length-replicate {A = ℕ} 521 0, p .1); ts = omega (arith, l, p .1) },
       zeros-at 513,
@@ -58,8 +57,7 @@ ended-ok-requires : tie.Need-ended-ok-requires
 ended-ok-requires c κs =
     let p = c .before .before .before .before .before .before .before .before .before .before .before .before .before .before .before .before .before .pre in
     let l = length-replicate {A = ℕ} 513 0 in
-    let k = c .before .before .before .before .before .before .before .before .before .before .begun-ok in
-    (
+    let k = c .before .before .before .before .before .before .before .before .before .before .begun-ok in (
       p .0,
       record { most = omega (arith, p .1); los = omega (arith, l, k .kept .1 .1 .1 .0, p .1); sns = omega (arith, l, k .kept .1 .1 .1 .1 .0, p .1); hds = omega (arith, length-replicate {A = ℕ} 521 0, k .kept .1 .1 .1 .1 .1 .0, p .1); ts = omega (arith, l, k .kept .1 .1 .1 .1 .1 .1 .0, p .1) },
       omega (arith, l, p .1),

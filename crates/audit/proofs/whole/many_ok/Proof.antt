@@ -24,8 +24,7 @@ slice-aggregate-begun-ok-4 c = search needs
 begun-ok-requires : tie.Need-begun-ok-requires
 begun-ok-requires c κs =
     let p = c .before .before .before .before .before .before .pre in
-    let l = length-replicate {A = ℕ} 4097 0 in
-    (
+    let l = length-replicate {A = ℕ} 4097 0 in (
       p,
       record { most = omega (arith, p .within, p .shaped .most); los = omega (arith, l, p .within, p .shaped .most); sns = omega (arith, l, p .within, p .shaped .most); hds = omega (arith, length-replicate {A = ℕ} 4105 0, p .within, p .shaped .most); ts = omega (arith, l, p .within, p .shaped .most) },
       zeros-at 4097,
@@ -58,8 +57,7 @@ ended-ok-requires : tie.Need-ended-ok-requires
 ended-ok-requires c κs =
     let p = c .before .before .before .before .before .before .before .before .before .before .before .before .before .before .before .before .before .pre in
     let l = length-replicate {A = ℕ} 4097 0 in
-    let k = c .before .before .before .before .before .before .before .before .before .before .begun-ok in
-    (
+    let k = c .before .before .before .before .before .before .before .before .before .before .begun-ok in (
       p,
       record { most = omega (arith, p .within, p .shaped .most); los = omega (arith, l, k .kept .1 .1 .1 .0, p .within, p .shaped .most); sns = omega (arith, l, k .kept .1 .1 .1 .1 .0, p .within, p .shaped .most); hds = omega (arith, length-replicate {A = ℕ} 4105 0, k .kept .1 .1 .1 .1 .1 .0, p .within, p .shaped .most); ts = omega (arith, l, k .kept .1 .1 .1 .1 .1 .1 .0, p .within, p .shaped .most) },
       omega (arith, l, p .within, p .shaped .most),
