@@ -1,6 +1,6 @@
 -- Runs of zeros, by one `|` a word.
 use mathlib.Core.Path.{_≡_, ap, sym, _∙_}
-use Prim.Native.Nat.{ℕ, _+_, _*_, _<_}
+use Prim.Native.Nat.{ℕ, _+_, _<_}
 use mathlib.Core.List.{List}
 use lib.ListN.{getD}
 use lib.Bits.{bitOr, or-add-and, and-le-l, and-le-r}

@@ -1,11 +1,11 @@
 -- The least and the greatest key of a tree, from those of its two sides.
-use mathlib.Core.Path.{_≡_, refl, sym, ap, subst, _∙_}
+use mathlib.Core.Path.{_≡_, subst}
 use mathlib.Core.Logic.{_≢_}
-use Prim.Native.Nat.{ℕ, zero, suc, _≤_, _<_, min, max}
+use Prim.Native.Nat.{ℕ, _≤_, _<_, min, max}
 use mathlib.Core.List.{List, [], _∷_, _++_}
 use native.Mathlib.Omega.{arith}
 use native.Mathlib.Decide.{ℕ-discrete}
-use Rattle.model.specs.Tree.{Tree, leaf, node, Entry, entries, AllBelow, AllAbove, Ordered}
+use Rattle.model.specs.Tree.{node, Entry, entries, AllBelow, AllAbove, Ordered}
 use Rattle.model.specs.Heap.{Heap, Occupied, load, tree, Linked}
 use Rattle.model.proofs.Loads.{tree-node}
 use Rattle.area.specs.Turns.{Spans}

@@ -1,5 +1,4 @@
 // Runs of zeros. One `|` a word and no test: of that LLVM makes vectors.
-ghost use mathlib.Core.Path.{_≡_};
 ghost use Prim.Native.Nat.{_+_, _≤_};
 ghost use lib.ListN.{length};
 ghost use Rattle.model.specs.Tells.{Tells};

@@ -1,8 +1,8 @@
 -- Occupancy bits that come up one after another, and words of none.
-use mathlib.Core.Path.{_≡_, refl, ap, sym, subst, _∙_}
+use mathlib.Core.Path.{_≡_, ap, sym, subst, _∙_}
 use mathlib.Core.Logic.{_≢_}
 use Prim.Native.Nat.{ℕ, zero, suc, _+_, _-_, _*_, _/_, _%_, _^_, _≤_, _<_}
-use mathlib.Core.Bool.{Bool, true, false, true≢false}
+use mathlib.Core.Bool.{Bool, false, true≢false}
 use mathlib.Core.List.{List}
 use lib.ListN.{getD}
 use lib.Dec.{eqb}
@@ -13,7 +13,7 @@ use native.Mathlib.Numerals.{add-one}
 use native.Mathlib.Nat.{zero-div}
 use Rattle.model.specs.Block.{word, room, width, occupiedAt}
 use Rattle.model.specs.Tells.{Tells}
-use Rattle.area.specs.Area.{areaWord, area}
+use Rattle.area.specs.Area.{area}
 use Rattle.area.specs.Notes.{Zeros, Fair}
 use Rattle.model.proofs.Tells.{tells-map, each-more, each-join}
 use Rattle.audit.specs.Whole.{MarkOk, MarksOk}

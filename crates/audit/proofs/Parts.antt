@@ -1,22 +1,20 @@
 -- The audit's parts make up soundness: the block's heap is its area's, with the block's roots.
 use mathlib.Core.Path.{_≡_, refl, ap, sym, subst, _∙_}
-use Prim.Native.Nat.{ℕ, zero, suc, _+_, _-_, _*_, _/_, _≤_, _<_}
+use Prim.Native.Nat.{ℕ, zero, suc, _+_, _*_, _/_, _≤_, _<_}
 use mathlib.Core.Bool.{Bool, true, false, true≢false}
 use mathlib.Core.List.{List}
-use lib.ListN.{length, getD, drop, take, length-drop}
-use lib.Seq.{getD-drop, take-all}
-use borrow.Author.Tests.{le-ltb, eq-eqb, ne-eqb}
+use lib.ListN.{length, getD}
+use borrow.Author.Tests.{eq-eqb, ne-eqb}
 use native.Mathlib.Omega.{arith}
-use native.Mathlib.Nat.{le-of-eq}
 use native.Mathlib.Decide.{ℕ-discrete, decLt}
 use Rattle.model.specs.Tree.{Ordered}
 use Rattle.model.specs.Heap.{Heap, Occupied, Named, sizeAt, sumAt, load, tree, refs, Linked, Kept, Sound}
-use Rattle.model.specs.Block.{word, room, width, nodeWord, twoWords, occupiedAt, heap, Shaped, SoundBlock}
+use Rattle.model.specs.Block.{word, room, width, twoWords, occupiedAt, heap}
 use Rattle.model.proofs.Steps.{refs-unoccupied}
 use Rattle.model.specs.Tells.{Each}
 use Rattle.area.specs.Area.{areaWord, area, AreaOk}
 use Rattle.area.proofs.Area.{getD-past, within-area}
-use Rattle.audit.specs.Whole.{nodesOf, upTo, Cut}
+use Rattle.audit.specs.Whole.{upTo, Cut}
 
 -- the area with the block's roots
 abbrev withRoots : List ℕ → (ℕ → ℕ) → Heap

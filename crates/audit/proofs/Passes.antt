@@ -1,27 +1,25 @@
 -- The passes make up soundness, and none of them asks more.
-use mathlib.Core.Path.{_≡_, refl, ap, sym, subst, _∙_}
-use mathlib.Core.Logic.{_≢_}
-use Prim.Native.Nat.{ℕ, zero, suc, _+_, _*_, _/_, _≤_, _<_}
-use mathlib.Core.Bool.{Bool, true, false, true≢false}
+use mathlib.Core.Path.{_≡_, refl, ap, sym, _∙_}
+use Prim.Native.Nat.{ℕ, zero, suc, _+_, _*_, _≤_, _<_}
+use mathlib.Core.Bool.{Bool, true, false}
 use mathlib.Core.List.{List}
-use lib.ListN.{length, getD}
+use lib.ListN.{getD}
 use native.Mathlib.Omega.{arith}
-use native.Mathlib.Decide.{ℕ-discrete, decLe}
+use native.Mathlib.Decide.{decLe}
 use Rattle.model.specs.Heap.{Heap, Occupied, Named, sizeAt, hits, refs, Blank, Linked, Kept, Sound}
-use Rattle.model.specs.Block.{word, room, width, nodeWord, occupiedAt, heap}
+use Rattle.model.specs.Block.{word, width, nodeWord, occupiedAt, heap}
 use Rattle.model.specs.Tells.{Tells, Each}
 use Rattle.model.proofs.Counts.{hits-same, hits-some}
 use Rattle.model.proofs.Steps.{refs-unoccupied}
 use Rattle.model.proofs.Loads.{sizeAt-occupied}
-use Rattle.model.proofs.Lookups.{link-occupied}
 use Rattle.model.proofs.Bound.{size-room}
 use Rattle.model.proofs.Tells.{tells-map}
 use Rattle.area.specs.Area.{areaWord, area, AreaOk}
 use Rattle.area.specs.Notes.{Zeros, Fair, note, Upto, Noted}
 use Rattle.area.specs.Turns.{Goes, links, Ready, Backed, Trees}
-use Rattle.area.proofs.Area.{getD-past, live, dead, not-live, within-area, occupied-named}
+use Rattle.area.proofs.Area.{getD-past, live, dead, within-area, occupied-named}
 use Rattle.area.proofs.Taking.{hits-most}
-use Rattle.audit.specs.Whole.{upTo, Cut, MarkOk, MarksOk, RootsOk, RootsTaken, Begun}
+use Rattle.audit.specs.Whole.{upTo, Cut, MarksOk, RootsOk, RootsTaken, Begun}
 use Rattle.audit.proofs.Words.{eight}
 use Rattle.audit.proofs.Parts.{Parts, parts-sound, sound-parts}
 

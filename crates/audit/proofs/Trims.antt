@@ -1,11 +1,11 @@
 -- Nodes beyond the last occupied one add nothing to a heap.
 use mathlib.Core.Path.{_≡_, refl, sym, ap, subst, _∙_}
-use Prim.Native.Nat.{ℕ, zero, suc, _+_, _≤_, _<_}
-use mathlib.Core.Bool.{Bool, true, false, true≢false}
+use Prim.Native.Nat.{ℕ, zero, suc, _≤_, _<_}
+use mathlib.Core.Bool.{false, true≢false}
 use native.Mathlib.Omega.{arith}
-use native.Mathlib.Decide.{ℕ-discrete, decLt, decLe}
+use native.Mathlib.Decide.{ℕ-discrete, decLe}
 use Rattle.model.specs.Tree.{Ordered}
-use Rattle.model.specs.Heap.{Heap, Occupied, Named, sizeAt, sumAt, load, tree, hit, hits, refs, Blank, Linked, Kept, Sound}
+use Rattle.model.specs.Heap.{Heap, Occupied, Named, sizeAt, sumAt, load, tree, hits, refs, Blank, Linked, Sound}
 use Rattle.model.proofs.Counts.{hit-no}
 use Rattle.audit.specs.Whole.{upTo}
 

@@ -1,7 +1,6 @@
 // Checks of a block that is lent, of any words at all, and the fresh block.
 use area::words::wide;
 use model::WIDTH;
-ghost use mathlib.Core.Path.{_≡_};
 ghost use Rattle.model.specs.Block.{Shaped, SoundBlock};
 ghost use Rattle.model.specs.Tells.{Tells};
 ghost use Rattle.model.specs.Calls.{Fitting, Checked, Fresh, refusal};

@@ -1,5 +1,5 @@
 -- The number by which node 1 is read instead and the sum dropped is 0 for no link and 1 for a node.
-use mathlib.Core.Path.{_≡_, refl, ap, sym, _∙_}
+use mathlib.Core.Path.{_≡_, ap, _∙_}
 use Prim.Native.Nat.{ℕ, zero, suc, _+_, _-_, _*_, _/_, _^_, _≤_, _<_}
 use mathlib.Core.List.{List}
 use Rattle.model.specs.Heap.{sumAt}

@@ -1,5 +1,4 @@
 -- Both ask no more than soundness, and say what has begun.
-use mathlib.Core.Path.{_∙_}
 use native.Mathlib.Omega.{arith}
 use borrow.Author.Tests.{not-false}
 use Rattle.model.proofs.Tells.{tells-yes, tells-no}

@@ -1,6 +1,5 @@
 -- The cut heap is sound exactly when the block is.
 use Rattle.audit.proofs.Cuts.{cut-tells}
-use borrow.Author.Needs.{needs}
 use Rattle.audit.proofs.whole.cut_ok.Statement.{statement}
 use Rattle.audit.proofs.whole.cut_ok.Tie as tie
 

@@ -1,5 +1,4 @@
 -- The second pass asks no more than soundness, and the counts decide.
-use mathlib.Core.Path.{_∙_}
 use native.Mathlib.Omega.{arith}
 use borrow.Author.Tests.{not-false}
 use Rattle.model.proofs.Tells.{tells-yes, tells-no}

@@ -1,5 +1,4 @@
 -- The arrays are zeros, and long enough.
-use mathlib.Core.Path.{_∙_}
 use Prim.Native.Nat.{ℕ}
 use lib.ListN.{length-replicate}
 use native.Mathlib.Omega.{arith}

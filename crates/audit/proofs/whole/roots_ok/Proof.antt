@@ -1,7 +1,7 @@
 -- A root is taken if it is at most n and t has a reference to it left.
 use mathlib.Core.Path.{_≡_, refl, sym, _∙_}
 use mathlib.Core.Bool.{true≢false}
-use Prim.Native.Nat.{_+_, _-_, _≤_, _<_}
+use Prim.Native.Nat.{_-_, _≤_}
 use lib.ListN.{length, set, length-set}
 use borrow.Author.Tests.{not-false}
 use native.Mathlib.Omega.{arith}

@@ -1,6 +1,6 @@
 -- In a sound block the words beyond the last occupied node are zeros, and without them it is as sound.
 use lib.ListN.{length-take}
-use mathlib.Core.Path.{_≡_, refl, ap, sym, subst}
+use mathlib.Core.Path.{refl, ap, sym, subst}
 use Prim.Native.Nat.{_-_, _*_, _/_, _≤_}
 use native.Mathlib.Omega.{arith}
 use Rattle.model.specs.Block.{room, width}

@@ -1,7 +1,7 @@
 -- An occupancy word of 0 has no node, so the words of its 32 are zeros.
 use mathlib.Core.Path.{_≡_, ap, subst}
 use mathlib.Core.Bool.{not}
-use Prim.Native.Nat.{_+_, _*_}
+use Prim.Native.Nat.{_*_}
 use native.Mathlib.Omega.{arith}
 use Rattle.area.specs.Notes.{Zeros}
 use Rattle.area.proofs.Noting.{noted-run}

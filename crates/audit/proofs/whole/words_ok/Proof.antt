@@ -1,11 +1,11 @@
 -- One occupancy word after another.
 use mathlib.Core.Path.{_≡_, refl, sym, subst, _∙_}
 use mathlib.Core.Bool.{true≢false}
-use Prim.Native.Nat.{_+_, _-_, _*_, _/_, _≤_, _<_}
+use Prim.Native.Nat.{_+_, _-_, _*_, _/_, _≤_}
 use lib.ListN.{length}
 use borrow.Author.Tests.{not-false}
 use native.Mathlib.Omega.{arith}
-use Rattle.model.specs.Block.{room, occupiedAt}
+use Rattle.model.specs.Block.{occupiedAt}
 use Rattle.area.specs.Notes.{Noted}
 use Rattle.model.proofs.Tells.{tells-yes, tells-no, each-none}
 use Rattle.audit.specs.Whole.{MarkOk, MarksOk}
