@@ -12,6 +12,7 @@ pub mod Joins
 pub mod Edits
 pub mod Sizes
 pub mod Unions
+pub mod Fits
 pub mod Differences
 pub mod Orders
 pub mod Keeping

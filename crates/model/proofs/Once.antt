@@ -35,8 +35,8 @@ reads-once b versions answer a c A C = check-once A C same (λ A C. check-once A
 
 -- a call that edits
 pub edits-once : (b x y : List ℕ) (e : Edit) (a c : Answer) → Words x → Words y → Edits b x e a → Edits b y e c → (a ≡ c) × (x ≡ y)
-edits-once b x y e a c wx wy A C = check-once A C kept (λ A C. check-once A C kept (λ A C. check-once A C kept (λ A C. check-once A C kept (λ A C. check-once A C kept
-    (λ A C. (A .0 ∙ sym (C .0), edited-once b x y (e .dst) _ (A .1) (C .1) wx wy))))))
+edits-once b x y e a c wx wy A C = check-once A C kept (λ A C. check-once A C kept (λ A C. check-once A C kept (λ A C. check-once A C kept (λ A C. check-once A C kept (λ A C. check-once A C kept
+    (λ A C. (A .0 ∙ sym (C .0), edited-once b x y (e .dst) _ (A .1) (C .1) wx wy)))))))
   where
     kept : {z : Answer} → (a ≡ z) × (x ≡ b) → (c ≡ z) × (y ≡ b) → (a ≡ c) × (x ≡ y)
     kept p q = (p .0 ∙ sym (q .0), p .1 ∙ sym (q .1))

@@ -4,21 +4,24 @@ use mathlib.Core.Logic.{_≢_, _⊎_, inl, inr, ⊎-elim, _↔_}
 use Prim.Native.Nat.{ℕ, _+_, _*_, _≤_, _<_}
 use mathlib.Core.Bool.{Bool, true, false, not, _&&_, true≢false}
 use mathlib.Core.Option.{Option, none, some}
-use mathlib.Core.List.{List}
+use mathlib.Core.List.{List, [], _∷_}
 use lib.ListN.{length}
 use lib.Dec.{eqb, leb}
 use borrow.Author.Tests.{leb-false, lt-leb, le-leb, eqb-true, eq-eqb}
 use native.Mathlib.Omega.{arith}
-use Rattle.model.specs.Tree.{height, lookup}
+use Rattle.model.specs.Tree.{entries, height, lookup}
 use Rattle.model.specs.Supply.{short}
 use Rattle.model.specs.Rules.{remove}
 use Rattle.model.specs.Heap.{version, free, supply}
 use Rattle.model.specs.Block.{room, heap, Shaped, SoundBlock}
 use Rattle.model.specs.Frame.{Frame, parse}
 use Rattle.model.specs.Inbox.{heardAt, SoundInbox, begun}
-use Rattle.model.specs.Numbers.{SHAPE, DAMAGED, VERSION, RULE, NO_ROOM}
+use Rattle.model.specs.Numbers.{SHAPE, DAMAGED, VERSION, RULE, SUM, NO_ROOM}
 use Rattle.model.specs.Calls.{fails, passes, Answer, finding, Versions, Edit, Edits, Fitting, inserting, removing, copying, clearing, uniting, lessening}
 use Rattle.model.specs.Link.{Begin, Heard, frameRule, Step, Takes, Says, Receive}
+use Rattle.model.proofs.Sorts.{ordered-sorted}
+use Rattle.model.proofs.Fits.{Exceeds, unfit-means, means-unfit}
+use Rattle.model.proofs.Versions.{version-ordered}
 use Rattle.model.proofs.Room.{insert-room, remove-room}
 use Rattle.model.proofs.Growing.{stocked-supply}
 use Rattle.model.proofs.Receiving.{Belongs, Outcome, away, again, new, receive-outcome, belongs-only-room}
@@ -50,8 +53,9 @@ pub record Exactly (b : List ℕ) (e : Edit) (n : ℕ) : Type 0 where
   pub damaged : (n ≡ DAMAGED) ↔ (Shaped b × (SoundBlock b → ⊥))
   pub version : (n ≡ VERSION) ↔ (SoundBlock b × (Versions (e .versions) → ⊥))
   pub rule : (n ≡ RULE) ↔ (SoundBlock b × Versions (e .versions) × (e .legal ≡ false))
+  pub sum : (n ≡ SUM) ↔ (SoundBlock b × Versions (e .versions) × (e .legal ≡ true) × (e .fits ≡ false))
   -- a make of the rule finds no free node
-  pub no-room : (n ≡ NO_ROOM) ↔ (SoundBlock b × Versions (e .versions) × (e .legal ≡ true) × (short (e .rule (supply (heap b)) .1) ≡ true))
+  pub no-room : (n ≡ NO_ROOM) ↔ (SoundBlock b × Versions (e .versions) × (e .legal ≡ true) × (e .fits ≡ true) × (short (e .rule (supply (heap b)) .1) ≡ true))
 
 not-true : (t : Bool) → (t ≡ true → ⊥) → t ≡ false
 not-true true f = absurd (f refl)
@@ -75,6 +79,7 @@ edit-numbers C (fails p r) = record {
   damaged = other (r .0) (omega arith) (λ x. p (x .0));
   version = other (r .0) (omega arith) (λ x. p (x .0 .shaped));
   rule = other (r .0) (omega arith) (λ x. p (x .0 .shaped));
+  sum = other (r .0) (omega arith) (λ x. p (x .0 .shaped));
   no-room = other (r .0) (omega arith) (λ x. p (x .0 .shaped));
 }
 edit-numbers C (passes p (fails q r)) = record {
@@ -82,6 +87,7 @@ edit-numbers C (passes p (fails q r)) = record {
   damaged = given (r .0) refl (p, q);
   version = other (r .0) (omega arith) (λ x. q (x .0));
   rule = other (r .0) (omega arith) (λ x. q (x .0));
+  sum = other (r .0) (omega arith) (λ x. q (x .0));
   no-room = other (r .0) (omega arith) (λ x. q (x .0));
 }
 edit-numbers C (passes p (passes q (fails u r))) = record {
@@ -89,6 +95,7 @@ edit-numbers C (passes p (passes q (fails u r))) = record {
   damaged = other (r .0) (omega arith) (λ x. x .1 q);
   version = given (r .0) refl (q, u);
   rule = other (r .0) (omega arith) (λ x. u (x .1));
+  sum = other (r .0) (omega arith) (λ x. u (x .1));
   no-room = other (r .0) (omega arith) (λ x. u (x .1));
 }
 edit-numbers {e = e} C (passes p (passes q (passes u (fails l r)))) = record {
@@ -96,25 +103,52 @@ edit-numbers {e = e} C (passes p (passes q (passes u (fails l r)))) = record {
   damaged = other (r .0) (omega arith) (λ x. x .1 q);
   version = other (r .0) (omega arith) (λ x. x .1 u);
   rule = given (r .0) refl (q, u, not-true (e .legal) l);
+  sum = other (r .0) (omega arith) (λ x. l (x .2));
   no-room = other (r .0) (omega arith) (λ x. l (x .2));
 }
-edit-numbers {b} {e = e} C (passes p (passes q (passes u (passes l (fails m r))))) = record {
+edit-numbers {e = e} C (passes p (passes q (passes u (passes l (fails f r))))) = record {
   shape = other (r .0) (omega arith) (λ x. x p);
   damaged = other (r .0) (omega arith) (λ x. x .1 q);
   version = other (r .0) (omega arith) (λ x. x .1 u);
   rule = other (r .0) (omega arith) (λ x. true≢false (sym l ∙ x .2));
-  no-room = given (r .0) refl (q, u, l, not-false (short (e .rule (supply (heap b)) .1)) m);
+  sum = given (r .0) refl (q, u, l, not-true (e .fits) f);
+  no-room = other (r .0) (omega arith) (λ x. f (x .3));
 }
-edit-numbers {e = e} C (passes p (passes q (passes u (passes l (passes m r))))) = record {
+edit-numbers {b} {e = e} C (passes p (passes q (passes u (passes l (passes f (fails m r)))))) = record {
+  shape = other (r .0) (omega arith) (λ x. x p);
+  damaged = other (r .0) (omega arith) (λ x. x .1 q);
+  version = other (r .0) (omega arith) (λ x. x .1 u);
+  rule = other (r .0) (omega arith) (λ x. true≢false (sym l ∙ x .2));
+  sum = other (r .0) (omega arith) (λ x. true≢false (sym f ∙ x .3));
+  no-room = given (r .0) refl (q, u, l, f, not-false (short (e .rule (supply (heap b)) .1)) m);
+}
+edit-numbers {e = e} C (passes p (passes q (passes u (passes l (passes f (passes m r)))))) = record {
   shape = other (r .0) (is-done 1 (omega arith)) (λ x. x p);
   damaged = other (r .0) (is-done 2 (omega arith)) (λ x. x .1 q);
   version = other (r .0) (is-done 3 (omega arith)) (λ x. x .1 u);
   rule = other (r .0) (is-done 4 (omega arith)) (λ x. true≢false (sym l ∙ x .2));
-  no-room = other (r .0) (is-done 5 (omega arith)) (λ x. true≢false (sym (x .3) ∙ m));
+  sum = other (r .0) (is-done 14 (omega arith)) (λ x. true≢false (sym f ∙ x .3));
+  no-room = other (r .0) (is-done 5 (omega arith)) (λ x. true≢false (sym (x .4) ∙ m));
 }
   where
     is-done : (k : ℕ) → 0 < k → e .answer .number ≢ k
     is-done k h z = omega (arith, done-number C)
+
+-- SUM is given exactly when all else is in order, the rule is 4, and some key of both versions has a sum above 4,294,967,295
+pub record Oversum (b : List ℕ) (dst left right rule : ℕ) : Type 0 where
+  pub sound : SoundBlock b
+  pub versions : Versions (dst ∷ left ∷ right ∷ [])
+  pub four : rule ≡ 4
+  pub exceeds : Exceeds (entries (version (heap b) left)) (entries (version (heap b) right))
+
+pub sum-exactly : {b after : List ℕ} {a : Answer} (dst left right rule : ℕ) → Edits b after (uniting b dst left right rule) a → (a .number ≡ SUM) ↔ Oversum b dst left right rule
+unfolding Versions
+sum-exactly {b} {after} {a} dst left right rule E = (
+  (λ z. let x = edit-numbers (unites dst left right rule) E .sum .0 z in
+    let (four, exceeds) = unfit-means rule _ _ (ordered-sorted _ (version-ordered (x .0 .sound) left (x .1 .1 .0))) (λ t. true≢false (sym t ∙ x .3)) in
+    record { sound = x .0; versions = x .1; four = four; exceeds = exceeds }),
+  (λ (O : Oversum b dst left right rule). edit-numbers (unites dst left right rule) E .sum .1 (O .sound, O .versions, le-leb rule 4 (omega (arith, O .four)), not-true (uniting b dst left right rule .fits) (means-unfit rule _ _ (O .four) (O .exceeds)))),
+)
 
 -- union has rules 0 to 4
 pub union-rules : (b : List ℕ) (dst left right rule : ℕ) → (uniting b dst left right rule .legal ≡ false) ↔ (4 < rule)
@@ -132,20 +166,20 @@ difference-rules b dst left right rule cancel = (to cancel (leb rule 3) refl (eq
 
 -- copy and clear make nothing, so they find room always
 pub copy-finds-room : {b after : List ℕ} {a : Answer} (dst src : ℕ) → Edits b after (copying b dst src) a → a .number ≢ NO_ROOM
-copy-finds-room {b} dst src E z = true≢false (sym (edit-numbers (copies dst src) E .no-room .0 z .3) ∙ stocked-supply (heap b) .enough)
+copy-finds-room {b} dst src E z = true≢false (sym (edit-numbers (copies dst src) E .no-room .0 z .4) ∙ stocked-supply (heap b) .enough)
 
 pub clear-finds-room : {b after : List ℕ} {a : Answer} (v : ℕ) → Edits b after (clearing v) a → a .number ≢ NO_ROOM
-clear-finds-room {b} v E z = true≢false (sym (edit-numbers (clears v) E .no-room .0 z .3) ∙ stocked-supply (heap b) .enough)
+clear-finds-room {b} v E z = true≢false (sym (edit-numbers (clears v) E .no-room .0 z .4) ∙ stocked-supply (heap b) .enough)
 
 -- room that is enough: where three nodes are free for each level of the source's tree, and one more, an insert or a remove is not refused for it
 module _ {b after : List ℕ} {a : Answer} (dst src key : ℕ) (enough : 3 * height (version (heap b) src) + 1 ≤ length (free (heap b))) where
   pub insert-finds-room : (value : ℕ) → Edits b after (inserting b dst src key value) a → a .number ≢ NO_ROOM
   unfolding supply
-  insert-finds-room value E z = true≢false (sym (edit-numbers (inserts dst src key value) E .no-room .0 z .3) ∙ insert-room (version (heap b) src) key value (supply (heap b)) (stocked-supply (heap b) .enough) enough)
+  insert-finds-room value E z = true≢false (sym (edit-numbers (inserts dst src key value) E .no-room .0 z .4) ∙ insert-room (version (heap b) src) key value (supply (heap b)) (stocked-supply (heap b) .enough) enough)
 
   pub remove-finds-room : Edits b after (removing b dst src key) a → a .number ≢ NO_ROOM
   unfolding supply
-  remove-finds-room E z = true≢false (sym (edit-numbers (removes dst src key) E .no-room .0 z .3) ∙ remove-room (version (heap b) src) key (supply (heap b)) (stocked-supply (heap b) .enough) (omega (arith, enough)))
+  remove-finds-room E z = true≢false (sym (edit-numbers (removes dst src key) E .no-room .0 z .4) ∙ remove-room (version (heap b) src) key (supply (heap b)) (stocked-supply (heap b) .enough) (omega (arith, enough)))
 
 -- remove of an absent key acts as copy
 pub remove-absent : {b after : List ℕ} {a : Answer} (dst src key : ℕ) → lookup (version (heap b) src) key ≡ none → Edits b after (removing b dst src key) a → Edits b after (copying b dst src) a

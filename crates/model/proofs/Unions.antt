@@ -1,5 +1,5 @@
 -- Union against maps: both sides are found key by key, merged where both have the key.
-use mathlib.Core.Path.{_≡_, refl, ap, ap₂, sym, _∙_}
+use mathlib.Core.Path.{_≡_, refl, ap, ap₂, sym, _∙_, fun-ext}
 use Prim.Native.Nat.{ℕ, zero, suc, _+_, _≤_, _<_, compare, Ordering, Ordering·lt, Ordering·eq, Ordering·gt}
 use mathlib.Core.Bool.{Bool, true, false}
 use mathlib.Core.Option.{Option, none, some}
@@ -7,6 +7,7 @@ use mathlib.Core.List.{_∷_, _++_}
 use lib.ListN.{length}
 use lib.Dec.{leb}
 use native.Mathlib.Omega.{arith}
+use native.Mathlib.Decide.{decLt}
 use Rattle.model.specs.Tree.{Tree, leaf, node, size, entries, cut, find, Ordered, Sorted, both, less, Is}
 use Rattle.model.specs.Supply.{Supply, given}
 use Rattle.model.specs.Rules.{join, Parts, split, mergedLeft, mergedRight, unionBy, union}
@@ -163,3 +164,68 @@ unionBy-is merge (suc fuel) (node i h w ll lr) (node j g u rl rr) s lt ol or = g
 pub union-is : (merge : ℕ → ℕ → ℕ) (l r : Tree) (s : Supply) → Ordered l → Ordered r → Is (entries (union merge l r s .0)) (Union merge l r)
 unfolding union
 union-is merge l r s ol or = unionBy-is merge (suc (size l + size r)) l r s (omega arith) ol or
+
+-- merges that agree on the keys of both sides make the same union, node for node
+module _ (f g : ℕ → ℕ → ℕ) where
+  abbrev Agree : Tree → Tree → Type 0
+  Agree l r = (k x y : ℕ) → find (entries l) k ≡ some x → find (entries r) k ≡ some y → f x y ≡ g x y
+
+  left-agrees : (w : ℕ) (o : Option ℕ) → ((y : ℕ) → o ≡ some y → f w y ≡ g w y) → mergedLeft f w o ≡ mergedLeft g w o
+  left-agrees w none a = refl
+  left-agrees w (some y) a = a y refl
+
+  right-agrees : (o : Option ℕ) (w : ℕ) → ((x : ℕ) → o ≡ some x → f x w ≡ g x w) → mergedRight f o w ≡ mergedRight g o w
+  right-agrees none w a = refl
+  right-agrees (some x) w a = a x refl
+
+  -- what is found in parts of two trees, below a key or above it, is found in the trees
+  part-agrees : (l r x y : Tree) (p : ℕ → Type 0) → ((k : ℕ) → Dec (p k)) → ((k : ℕ) → p k → find (entries x) k ≡ find (entries l) k) → ((k : ℕ) → ¬ p k → find (entries x) k ≡ none)
+      → ((k : ℕ) → p k → find (entries y) k ≡ find (entries r) k) → Agree l r → Agree x y
+  part-agrees l r x y p d in-x out-x in-y A k v w e q = go (d k)
+    where
+      go : Dec (p k) → f v w ≡ g v w
+      go (yes t) = A k v w (sym (in-x k t) ∙ e) (sym (in-y k t) ∙ q)
+      go (no t) = let z : _≡_ {A = ℕ} 0 1 = cc (e, out-x k t) in absurd (omega arith)
+
+  -- the two parts, then the join
+  abbrev ended : ℕ → ℕ → Tree × Supply → (Supply → Tree × Supply) → Tree × Supply
+  ended h v a B = let b = B (a .1) in join h v (a .0) (b .0) (b .1)
+
+  ends-agree : (h : ℕ) {v w : ℕ} {a c : Tree × Supply} {B C : Supply → Tree × Supply} → v ≡ w → a ≡ c → ((s : Supply) → B s ≡ C s) → ended h v a B ≡ ended h w c C
+  ends-agree h {v} {w} {a} {c} {B} {C} e p q = ap₂ (λ x y. ended h x y B) e p ∙ ap (λ b. join h w (c .0) (b .0) (b .1)) (q (c .1))
+
+  pub unionBy-agrees : (fuel : ℕ) (l r : Tree) (s : Supply) → Ordered l → Ordered r → Agree l r → unionBy f fuel l r s ≡ unionBy g fuel l r s
+  unfolding unionBy Ordered
+  unionBy-agrees zero l r s ol or A = refl
+  unionBy-agrees (suc fuel) leaf r s ol or A = refl
+  unionBy-agrees (suc fuel) (node i h w ll lr) leaf s ol or A = refl
+  unionBy-agrees (suc fuel) (node i h w ll lr) (node j k u rl rr) s ol or A = go (leb (size R) (size L)) refl (λ x y s′ p q A. unionBy-agrees fuel x y s′ p q A)
+    where
+      L : Tree
+      L = node i h w ll lr
+
+      R : Tree
+      R = node j k u rl rr
+
+      go : (b : Bool) → leb (size R) (size L) ≡ b → ((x y : Tree) (s′ : Supply) → Ordered x → Ordered y → Agree x y → unionBy f fuel x y s′ ≡ unionBy g fuel x y s′)
+          → unionBy f (suc fuel) L R s ≡ unionBy g (suc fuel) L R s
+      go true e ih =
+          let p = split R h (given i s) in
+          let S : SplitFacts R h (p .0) = split-facts R h (given i s) or in
+          let N = node-facts i h w ll lr ol in
+          rw (e, unionBy) (ends-agree h
+          (left-agrees w (p .0 .found) (λ y q. A h w y (N .at) (sym (S .found) ∙ q)))
+          (ih ll (p .0 .left) (p .1) (ol .2) (S .ordered-left) (part-agrees L R ll (p .0 .left) (λ x. x < h) (λ x. decLt x h) (N .low) (λ x q. N .low-none x (omega arith)) (S .low) A))
+          (λ s′. ih lr (p .0 .right) s′ (ol .3) (S .ordered-right) (part-agrees L R lr (p .0 .right) (λ x. h < x) (λ x. decLt h x) (N .high) (λ x q. N .high-none x (omega arith)) (S .high) A)))
+      go false e ih =
+          let p = split L k (given j s) in
+          let S : SplitFacts L k (p .0) = split-facts L k (given j s) ol in
+          let N = node-facts j k u rl rr or in
+          rw (e, unionBy) (ends-agree k
+          (right-agrees (p .0 .found) u (λ x q. A k x u (sym (S .found) ∙ q) (N .at)))
+          (ih (p .0 .left) rl (p .1) (S .ordered-left) (or .2) (part-agrees L R (p .0 .left) rl (λ x. x < k) (λ x. decLt x k) (S .low) (λ x q. S .low-none x (omega arith)) (N .low) A))
+          (λ s′. ih (p .0 .right) rr s′ (S .ordered-right) (or .3) (part-agrees L R (p .0 .right) rr (λ x. k < x) (λ x. decLt k x) (S .high) (λ x q. S .high-none x (omega arith)) (N .high) A)))
+
+  pub union-agrees : (l r : Tree) → Ordered l → Ordered r → Agree l r → union f l r ≡ union g l r
+  unfolding union
+  union-agrees l r ol or A = fun-ext (λ s. unionBy-agrees (suc (size l + size r)) l r s ol or A)

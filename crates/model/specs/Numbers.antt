@@ -36,3 +36,7 @@ BATCH = 8
 -- inbox count not zero and unlike the frame's
 abbrev pub COUNT : ℕ
 COUNT = 9
+
+-- a sum of union rule 4 is above 4,294,967,295
+abbrev pub SUM : ℕ
+SUM = 14

@@ -2,8 +2,9 @@
 use Prim.Native.Nat.{ℕ, zero, suc, min, max, _+_, _*_, _-_, compare, Ordering, Ordering·lt, Ordering·eq, Ordering·gt}
 use mathlib.Core.Bool.{Bool, true, false, _&&_}
 use mathlib.Core.Option.{Option, none, some}
+use mathlib.Core.List.{List, [], _∷_}
 use lib.Dec.{ltb, leb, eqb}
-use Rattle.model.specs.Tree.{Tree, leaf, node, size, lookup}
+use Rattle.model.specs.Tree.{Tree, leaf, node, Entry, size, lookup, find}
 use Rattle.model.specs.Supply.{Make, make, done, apart, _>>=_, _>>_}
 
 -- size plus 1
@@ -241,13 +242,27 @@ difference diff cancel (node i h w ll lr) (node j g u rl rr) =
         rest a h (kept diff w (p .found)) b
     ]
 
--- union rules: 0 left, 1 right, 2 smaller, 3 larger, 4 sum held at 4,294,967,295
+-- union rules: 0 left, 1 right, 2 smaller, 3 larger, 4 sum
 unfoldable pub mergeBy : ℕ → ℕ → ℕ → ℕ
 mergeBy zero x y = x
 mergeBy (suc zero) x y = y
 mergeBy (suc (suc zero)) x y = min x y
 mergeBy (suc (suc (suc zero))) x y = max x y
-mergeBy (suc (suc (suc (suc n)))) x y = min (x + y) 4294967295
+mergeBy (suc (suc (suc (suc n)))) x y = x + y
+
+-- a value, and the value found on the other side if there is one, have a sum of at most 4,294,967,295
+abbrev pub sumFits : ℕ → Option ℕ → Bool
+sumFits x none = true
+sumFits x (some y) = leb (x + y) 4294967295
+
+-- every key that both maps have does
+unfoldable pub sumsFit : List Entry → List Entry → Bool
+sumsFit [] ys = true
+sumsFit (e ∷ es) ys = sumFits (e .1) (find ys (e .0)) && sumsFit es ys
+
+-- what a union's rule asks of the two maps: rule 4, that every sum fits
+unfoldable pub fits : ℕ → List Entry → List Entry → Bool
+fits rule xs ys = elim (eqb rule 4) [ true ↦ sumsFit xs ys | false ↦ true ]
 
 -- difference rules for a common key: 0 drop; 1 drop if equal, else left; 2 left; 3 left minus right if larger, else drop
 unfoldable pub diffBy : ℕ → ℕ → ℕ → Option ℕ
