@@ -1,1 +1,3 @@
 pub mod United
+pub mod Words
+pub mod Narrowed

@@ -16,10 +16,12 @@ ghost use Rattle.model.specs.Heap.{Named, Linked, sizeAt, tree};
 ghost use Rattle.model.specs.Block.{heap, Shaped};
 ghost use mathlib.Core.List.{[], _∷_};
 ghost use Rattle.model.specs.Moves.{Holding};
-ghost use Rattle.model.specs.Rules.{rest, difference, mergeBy, diffBy};
+ghost use Rattle.model.specs.Rules.{rest, difference, diffBy};
 ghost use Rattle.block.specs.Outcome.{Outcome, answer};
 ghost use Rattle.sets.specs.United.{United, picked};
+ghost use Rattle.sets.specs.Words.{wordBy};
 
+pub mod sums;
 mod values;
 
 // The first of two numbers, or the second.
@@ -41,7 +43,7 @@ fn left_first(b: &[u32], left: u32, right: u32) -> bool
 // Both ways are one code: with its calls written twice a level takes 288 bytes of stack in place of 208, and a chain has 4,096 levels.
 pub fn union(b: &mut [u32], rule: u32, left: u32, right: u32) -> Made
     requires { ⌜ Holding (now b) (left ∷ right ∷ []) × Named (heap (now b)) left × Named (heap (now b)) right × (sizeAt (heap (now b)) left + sizeAt (heap (now b)) right < 1048576) ⌝ }
-    ensures { λ r. ⌜ United (now (b .entry)) (now (b .exit)) r (mergeBy rule) left right ⌝ }
+    ensures { λ r. ⌜ United (now (b .entry)) (now (b .exit)) r (wordBy rule) left right ⌝ }
 {
     if left == 0 {
         return Made::At(right);

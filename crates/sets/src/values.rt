@@ -1,13 +1,15 @@
 // The value of a key that both trees have, by the rule's number.
 use block::Found;
+use std::num::wrapping_add_u32;
 ghost use mathlib.Core.Path.{_≡_};
-ghost use Rattle.model.specs.Rules.{mergedLeft, mergedRight, kept, mergeBy, diffBy};
+ghost use Rattle.model.specs.Rules.{mergedLeft, mergedRight, kept, diffBy};
 ghost use Rattle.block.specs.Outcome.{answer};
 ghost use Rattle.sets.specs.United.{merged};
+ghost use Rattle.sets.specs.Words.{wordBy};
 
-// Union rules: 0 left, 1 right, 2 smaller, 3 larger, 4 sum held at 4,294,967,295, which is asked before the sum could exceed it.
+// Union rules: 0 left, 1 right, 2 smaller, 3 larger, 4 sum. A sum that does not fit wraps here; the call has refused it before.
 fn merge(rule: u32, x: u32, y: u32) -> u32
-    ensures { λ r. ⌜ r ≡ mergeBy rule x y ⌝ }
+    ensures { λ r. ⌜ r ≡ wordBy rule x y ⌝ }
 {
     if rule == 0 {
         return x;
@@ -21,15 +23,12 @@ fn merge(rule: u32, x: u32, y: u32) -> u32
     if rule == 3 {
         return if x < y { y } else { x };
     }
-    if 4294967295 - x < y {
-        return 4294967295;
-    }
-    x + y
+    wrapping_add_u32(x, y)
 }
 
 // The value of a left key, merged where the right has the key.
 fn merge_left(rule: u32, x: u32, right: Found) -> u32
-    ensures { λ r. ⌜ r ≡ mergedLeft (mergeBy rule) x (answer right) ⌝ }
+    ensures { λ r. ⌜ r ≡ mergedLeft (wordBy rule) x (answer right) ⌝ }
 {
     match right {
         Found::Value(y) => merge(rule, x, y),
@@ -39,7 +38,7 @@ fn merge_left(rule: u32, x: u32, right: Found) -> u32
 
 // The value of a right key, merged as (left value, right value) where the left has the key.
 fn merge_right(rule: u32, left: Found, y: u32) -> u32
-    ensures { λ r. ⌜ r ≡ mergedRight (mergeBy rule) (answer left) y ⌝ }
+    ensures { λ r. ⌜ r ≡ mergedRight (wordBy rule) (answer left) y ⌝ }
 {
     match left {
         Found::Value(x) => merge(rule, x, y),
@@ -49,7 +48,7 @@ fn merge_right(rule: u32, left: Found, y: u32) -> u32
 
 // The value of the root's key, where the other tree may have the key too; `first` says that the root is the left tree's.
 pub fn merged(rule: u32, first: bool, value: u32, other: Found) -> u32
-    ensures { λ r. ⌜ r ≡ merged first (mergeBy rule) value (answer other) ⌝ }
+    ensures { λ r. ⌜ r ≡ merged first (wordBy rule) value (answer other) ⌝ }
 {
     if first {
         return merge_left(rule, value, other);

@@ -7,9 +7,9 @@ use mathlib.Core.List.{List, [], _∷_}
 use lib.Dec.{eqb, leb}
 use borrow.Author.Tests.{eq-eqb}
 use native.Mathlib.Omega.{arith}
-use Rattle.model.specs.Tree.{Tree, leaf, size, lookup, Ordered}
+use Rattle.model.specs.Tree.{Tree, leaf, size, entries, lookup, Ordered}
 use Rattle.model.specs.Supply.{done}
-use Rattle.model.specs.Rules.{insertBy, insert, removePresent, remove, union, difference, diffBy}
+use Rattle.model.specs.Rules.{insertBy, insert, removePresent, remove, union, difference, mergeBy, fits, diffBy}
 use Rattle.model.specs.Heap.{Heap, Named, load, tree, version, supply}
 use Rattle.model.specs.Block.{heap, SoundBlock}
 use Rattle.model.specs.Moves.{Running, held}
@@ -26,6 +26,8 @@ use Rattle.block.specs.Outcome.{Outcome, answer}
 use Rattle.block.proofs.Outcomes.{out-done}
 use Rattle.tree.specs.Remade.{remade}
 use Rattle.sets.specs.United.{United}
+use Rattle.sets.specs.Words.{wordBy}
+use Rattle.sets.proofs.ByRule.{union-exact}
 use Rattle.table.specs.Answers.{isAbsent}
 use Rattle.table.proofs.Settling.{Source, source-named}
 
@@ -73,11 +75,20 @@ pub no-pieces : (h : Heap) → AllNamed h []
 unfolding AllNamed
 no-pieces h = tt
 
-pub united : {b c : List ℕ} {q : Made} {merge : ℕ → ℕ → ℕ} {v w l r : ℕ} → Source b v l → Source b w r → United b c q merge l r → Outcome b c (l ∷ r ∷ []) q (union merge (version (heap b) v) (version (heap b) w))
-unfolding union
-united {b} {merge = merge} {l = l} {r = r} S T U =
-    let L = S .sound .sound .kept .linked in
-    rw (← S .is, ← T .is) (U .any (suc (size (tree (heap b) l) + size (tree (heap b) r))) (omega (arith, tree-size (heap b) L l (source-named S), tree-size (heap b) L r (source-named T))))
+-- the words that were merged are the rule's values, as every sum fits
+pub united : {b c : List ℕ} {q : Made} {v w l r : ℕ} (rule : ℕ) → Source b v l → Source b w r → leb rule 4 ≡ true → fits rule (entries (version (heap b) v)) (entries (version (heap b) w)) ≡ true
+    → United b c q (wordBy rule) l r → Outcome b c (l ∷ r ∷ []) q (union (mergeBy rule) (version (heap b) v) (version (heap b) w))
+united {b} {c} {q} {v} {w} {l} {r} rule S T legal f U = subst (Outcome b c (l ∷ r ∷ []) q) (union-exact rule _ _ legal (version-ordered (S .sound .sound) v (S .known)) (version-ordered (T .sound .sound) w (T .known)) f) whole
+  where
+    whole : Outcome b c (l ∷ r ∷ []) q (union (wordBy rule) (version (heap b) v) (version (heap b) w))
+    unfolding union
+    whole =
+        let L = S .sound .sound .kept .linked in
+        rw (← S .is, ← T .is) (U .any (suc (size (tree (heap b) l) + size (tree (heap b) r))) (omega (arith, tree-size (heap b) L l (source-named S), tree-size (heap b) L r (source-named T))))
+
+-- what the test says of the roots is so of the versions
+pub fits-told : {b : List ℕ} {v w l r : ℕ} {t : Bool} (rule : ℕ) → Source b v l → Source b w r → t ≡ fits rule (entries (tree (heap b) l)) (entries (tree (heap b) r)) → t ≡ fits rule (entries (version (heap b) v)) (entries (version (heap b) w))
+fits-told rule S T e = rw (← S .is, ← T .is) e
 
 pub lessened : {b c ps : List ℕ} {q : Made} {v w l r : ℕ} (rule : ℕ) (cancel : Bool) → Source b v l → Source b w r → Outcome b c ps q (difference (diffBy rule) cancel (tree (heap b) l) (tree (heap b) r)) → Outcome b c ps q (difference (diffBy rule) cancel (version (heap b) v) (version (heap b) w))
 lessened rule cancel S T O = rw (← S .is, ← T .is) O

@@ -28,6 +28,8 @@ const RULE: u32 = 4;
 
 const NO_ROOM: u32 = 5;
 
+const SUM: u32 = 14;
+
 // The end of an edit: the destination takes what was made, or what was made is given up again. Receive ends its edit by it too; it is no call of its own.
 pub fn settle(b: &mut [u32], dst: u32, from: u32, made: Made) -> u32
     requires { ⌜ Running (now b) × (dst < 16) × Stands (heap (now b)) made × (1 ≤ from) × HeldBelow (heap (now b)) from ⌝ }
@@ -123,7 +125,7 @@ pub fn clear(b: &mut [u32], version: u32) -> Answer
     plain(settle(b, version, from, Made::At(0)))
 }
 
-// Version dst becomes the union of left and right; the rule merges the values of a key that both have.
+// Version dst becomes the union of left and right; the rule merges the values of a key that both have. Sums are tested first, so that room decides nothing about them.
 pub fn union(b: &mut [u32], dst: u32, left: u32, right: u32, rule: u32) -> Answer
     ensures { λ r. ⌜ Edits (now (b .entry)) (now (b .exit)) (uniting (now (b .entry)) dst left right rule) (answerOf r) ⌝ }
 {
@@ -134,9 +136,12 @@ pub fn union(b: &mut [u32], dst: u32, left: u32, right: u32, rule: u32) -> Answe
     if !union_rule(rule) {
         return plain(RULE);
     }
-    let from = makes_from(b);
     let l = root(b, left);
     let r = root(b, right);
+    if !sets::sums::fits(b, rule, l, r) {
+        return plain(SUM);
+    }
+    let from = makes_from(b);
     let made = sets::union(b, rule, l, r);
     plain(settle(b, dst, from, made))
 }

@@ -22,9 +22,9 @@ use Rattle.sets.proofs.+union.{statement}
 use Rattle.sets.proofs.+union.Tie.{close}
 use Rattle.model.specs.Block.{heap}
 use Rattle.model.specs.Heap.{sizeAt}
-use Rattle.model.specs.Rules.{mergeBy}
 use Rattle.model.proofs.Lookups.{link-occupied}
 use Rattle.join.proofs.Splitting.{told-parts}
+use Rattle.sets.specs.Words.{wordBy}
 use Rattle.sets.proofs.Chains.{chain-asks, chain-stop, chain-first, chain-stop-first, chain-second, chain-stop-second, chain-last, chain-done}
 use Rattle.sets.proofs.Uniting.{told-union, left-empty, right-empty, Taken, taken-asks, root-some, ByRoot, root-chain, parts-asks, parts-fed, root-ends, with-value}
 
@@ -45,7 +45,7 @@ taken : (t : ℕ) (c : union-lts.After-pick2 (calls t) (union-at t) union.Post) 
 taken t c = record { asks = c .before .before .before .before .before .before .before .pre .1; left-some = c .before .before .before .before .before .if1 .left; right-some = c .before .before .before .before .if2 .left; order = c .before .before .left-first .ensures; root = c .before .pick .ensures; other = c .pick2 .ensures }
 
 -- the level, once that root is taken apart
-level : (t : ℕ) (c : union-lts.After-take-apart (calls t) (union-at t) union.Post) → let a = c .before .before .before .before .before .before .before .before .before .args in ByRoot (a .b .now) (c .take-apart .last .0) (mergeBy (a .rule)) (c .before .before .before .before .left-first .result) (a .left) (a .right) (c .before .before .before .pick .result) (c .before .before .pick2 .result) (c .take-apart .result)
+level : (t : ℕ) (c : union-lts.After-take-apart (calls t) (union-at t) union.Post) → let a = c .before .before .before .before .before .before .before .before .before .args in ByRoot (a .b .now) (c .take-apart .last .0) (wordBy (a .rule)) (c .before .before .before .before .left-first .result) (a .left) (a .right) (c .before .before .before .pick .result) (c .before .before .pick2 .result) (c .take-apart .result)
 level t c = root-chain (c .before .before .before .before .left-first .result) _ (taken t (c .before .before)) (c .take-apart .ensures)
 
 union-returns : (t : ℕ) → union-lts.Need-returns (calls t) (union-at t) union.Post

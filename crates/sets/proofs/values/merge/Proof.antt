@@ -1,8 +1,9 @@
--- Merge is right because each rule number has its own branch, and the sum is held where the room left above x is below y.
+-- Merge is right because each rule number has its own branch, and the sum wraps as the word does.
 use borrow.Author.Needs.{needs}
 use Rattle.sets.proofs.values.merge.Statement.{statement}
 use Rattle.sets.proofs.values.merge.Tie as tie
-use Rattle.sets.proofs.ByRule.{takes-left, takes-right, left-smaller, right-smaller, right-larger, left-larger, sum-held, sum-whole}
+use mathlib.Core.Path.{_∙_}
+use Rattle.sets.proofs.ByRule.{takes-left, takes-right, left-smaller, right-smaller, right-larger, left-larger, sums}
 
 returns : tie.Need-returns
 returns c = takes-left _ _ _ (c .if1 .taken)
@@ -22,17 +23,11 @@ returns-5 c = right-larger _ _ _ (c .before .if5 .taken) (c .if6 .taken)
 returns-6 : tie.Need-returns-6
 returns-6 c = left-larger _ _ _ (c .before .if5 .taken) (c .if6 .left)
 
-sub-if7 : tie.Need-sub-if7
-sub-if7 c = search needs
+wrapping-add-u32-requires : tie.Need-wrapping-add-u32-requires
+wrapping-add-u32-requires c = search needs
 
 returns-7 : tie.Need-returns-7
-returns-7 c = sum-held _ _ _ (c .before .before .before .before .if1 .left) (c .before .before .before .if2 .left) (c .before .before .if3 .left) (c .before .if5 .left) (search needs) (c .if7 .taken)
-
-add-result : tie.Need-add-result
-add-result c = search needs
-
-returns-8 : tie.Need-returns-8
-returns-8 c = sum-whole _ _ _ (c .before .before .before .before .if1 .left) (c .before .before .before .if2 .left) (c .before .before .if3 .left) (c .before .if5 .left) (search needs) (c .if7 .left)
+returns-7 c = c .wrapping-add-u32 .ensures ∙ sums _ _ _ (c .before .before .before .before .if1 .left) (c .before .before .before .if2 .left) (c .before .before .if3 .left) (c .before .if5 .left)
 
 pub merge-spec : {M : Type 1} → statement M
 merge-spec =
@@ -44,7 +39,5 @@ merge-spec =
     returns-4
     returns-5
     returns-6
-    sub-if7
-    returns-7
-    add-result
-    returns-8)
+    wrapping-add-u32-requires
+    returns-7)

@@ -3,8 +3,9 @@ use borrow.Author.Needs.{needs}
 use Rattle.sets.proofs.values.merge_left.Statement.{statement}
 use Rattle.sets.proofs.values.merge_left.Tie as tie
 use mathlib.Core.Path.{ap, sym, _∙_}
-use Rattle.model.specs.Rules.{mergedLeft, mergeBy}
+use Rattle.model.specs.Rules.{mergedLeft}
 use Rattle.block.specs.Outcome.{answer}
+use Rattle.sets.specs.Words.{wordBy}
 
 enum-known-right : tie.Need-enum-known-right
 enum-known-right c = search needs
@@ -16,7 +17,7 @@ enum-told : tie.Need-enum-told
 enum-told c = search needs
 
 returns : tie.Need-returns
-returns c = c .merge .ensures ∙ ap (λ z. mergedLeft (mergeBy (c .before .before .before .before .args .rule)) (c .before .before .before .before .args .x) (answer z)) (sym (c .before .before .right .given .1))
+returns c = c .merge .ensures ∙ ap (λ z. mergedLeft (wordBy (c .before .before .before .before .args .rule)) (c .before .before .before .before .args .x) (answer z)) (sym (c .before .before .right .given .1))
 
 returns-2 : tie.Need-returns-2
 returns-2 c = search needs

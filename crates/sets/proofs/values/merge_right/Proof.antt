@@ -3,8 +3,9 @@ use borrow.Author.Needs.{needs}
 use Rattle.sets.proofs.values.merge_right.Statement.{statement}
 use Rattle.sets.proofs.values.merge_right.Tie as tie
 use mathlib.Core.Path.{ap, sym, _∙_}
-use Rattle.model.specs.Rules.{mergedRight, mergeBy}
+use Rattle.model.specs.Rules.{mergedRight}
 use Rattle.block.specs.Outcome.{answer}
+use Rattle.sets.specs.Words.{wordBy}
 
 enum-known-left : tie.Need-enum-known-left
 enum-known-left c = search needs
@@ -16,7 +17,7 @@ enum-told : tie.Need-enum-told
 enum-told c = search needs
 
 returns : tie.Need-returns
-returns c = c .merge .ensures ∙ ap (λ z. mergedRight (mergeBy (c .before .before .before .before .args .rule)) (answer z) (c .before .before .before .before .args .y)) (sym (c .before .before .left .given .1))
+returns c = c .merge .ensures ∙ ap (λ z. mergedRight (wordBy (c .before .before .before .before .args .rule)) (answer z) (c .before .before .before .before .args .y)) (sym (c .before .before .left .given .1))
 
 returns-2 : tie.Need-returns-2
 returns-2 c = search needs
