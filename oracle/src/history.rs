@@ -73,6 +73,8 @@ pub struct Mix {
     pub keys: Keys,
     /// Once in so many calls a version, rule or cancel number is drawn beyond the legal ones.
     pub illegal: usize,
+    /// Once in so many values one is drawn that may be large; with fewer of them more sums fit.
+    pub large: usize,
 }
 
 const EDGES: [u32; 6] = [0, 1, 2, u32::MAX - 1, u32::MAX, 1 << 31];
@@ -87,10 +89,13 @@ impl Mix {
     }
 
     fn value(self, random: &mut Random) -> u32 {
-        match random.below(4) {
-            0 => random.pick(&EDGES),
-            1 => random.word(),
-            _ => random.below(4) as u32,
+        if !random.once_in(self.large) {
+            return random.below(4) as u32;
+        }
+        if random.once_in(2) {
+            random.pick(&EDGES)
+        } else {
+            random.word()
         }
     }
 

@@ -10,6 +10,7 @@ pub mod limits;
 pub mod lines;
 pub mod link;
 pub mod room;
+pub mod sums;
 pub mod uneven;
 
 pub type Compared = Result<u64, String>;

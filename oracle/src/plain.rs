@@ -13,6 +13,7 @@ pub const TOO_DEEP: u32 = 6;
 pub const FRAME: u32 = 7;
 pub const BATCH: u32 = 8;
 pub const COUNT: u32 = 9;
+pub const SUM: u32 = 14;
 
 impl From<TooDeep> for u32 {
     fn from(_: TooDeep) -> u32 {
@@ -35,6 +36,9 @@ fn run(table: &mut Table, inbox: &mut [u32], call: &Call, reply: &mut Reply) -> 
     }
     if !call.rule_known() {
         return Err(RULE);
+    }
+    if exceeds(table, call) {
+        return Err(SUM);
     }
     let tree = |version: u32| table.versions[version as usize].clone();
     match *call {
@@ -62,6 +66,12 @@ fn run(table: &mut Table, inbox: &mut [u32], call: &Call, reply: &mut Reply) -> 
         _ => reply.fields = edit(table, call)?,
     }
     Ok(())
+}
+
+/// A union by sums in which one does not fit.
+pub fn exceeds(table: &Table, call: &Call) -> bool {
+    let tree = |version: u32| &table.versions[version as usize];
+    matches!(*call, Call::Union { left, right, rule: 4, .. } if !rules::sums_fit(tree(left), tree(right)))
 }
 
 /// Every entry is looked at.

@@ -232,13 +232,20 @@ fn split(s: &mut Supply, tree: &Tree, key: u32) -> (Tree, Option<u32>, Tree) {
     }
 }
 
+/// Whether every key of both trees has a sum that is a word.
+pub fn sums_fit(left: &Tree, right: &Tree) -> bool {
+    let Some(node) = left else { return true };
+    let sum = node.value as u64 + lookup(right, node.key).unwrap_or(0) as u64;
+    sum <= u32::MAX as u64 && sums_fit(&node.left, right) && sums_fit(&node.right, right)
+}
+
 pub fn merged(rule: u32, left: u32, right: u32) -> u32 {
     match rule {
         0 => left,
         1 => right,
         2 => left.min(right),
         3 => left.max(right),
-        4 => left.saturating_add(right),
+        4 => left.checked_add(right).expect("the sums were checked"),
         _ => unreachable!("the rule was checked"),
     }
 }

@@ -78,10 +78,10 @@ no-pieces h = tt
 -- the words that were merged are the rule's values, as every sum fits
 pub united : {b c : List ℕ} {q : Made} {v w l r : ℕ} (rule : ℕ) → Source b v l → Source b w r → leb rule 4 ≡ true → fits rule (entries (version (heap b) v)) (entries (version (heap b) w)) ≡ true
     → United b c q (wordBy rule) l r → Outcome b c (l ∷ r ∷ []) q (union (mergeBy rule) (version (heap b) v) (version (heap b) w))
+unfolding union
 united {b} {c} {q} {v} {w} {l} {r} rule S T legal f U = subst (Outcome b c (l ∷ r ∷ []) q) (union-exact rule _ _ legal (version-ordered (S .sound .sound) v (S .known)) (version-ordered (T .sound .sound) w (T .known)) f) whole
   where
     whole : Outcome b c (l ∷ r ∷ []) q (union (wordBy rule) (version (heap b) v) (version (heap b) w))
-    unfolding union
     whole =
         let L = S .sound .sound .kept .linked in
         rw (← S .is, ← T .is) (U .any (suc (size (tree (heap b) l) + size (tree (heap b) r))) (omega (arith, tree-size (heap b) L l (source-named S), tree-size (heap b) L r (source-named T))))

@@ -1,7 +1,7 @@
 //! Compares the exported calls with the original and with documents 01 and 02. Usage: compare [seed] [times]
 
-use oracle::exports::ANSWERS;
-use oracle::parts::{cases, damage, exhaustive, held, histories, ledger, limits, lines, link, room, uneven, Compared, Effort};
+use oracle::exports::{ANSWERS, NUMBERS};
+use oracle::parts::{cases, damage, exhaustive, held, histories, ledger, limits, lines, link, room, sums, uneven, Compared, Effort};
 use std::process::ExitCode;
 use std::sync::atomic::Ordering;
 use std::time::Instant;
@@ -15,6 +15,7 @@ const PARTS: [(&str, fn(Effort) -> Compared); 14] = [
     ("random histories, room short", histories::small),
     ("random histories, large trees", histories::large),
     ("exact room", room::exact),
+    ("sums that fit and that do not", sums::around_the_limit),
     ("uneven trees: edits", uneven::edits),
     ("uneven trees: listings and depth", uneven::depths),
     ("damaged and cut blocks and inboxes", damage::refusals),
@@ -41,8 +42,8 @@ fn main() -> ExitCode {
             }
         }
     }
-    let answers = ANSWERS.each_ref().map(|times| times.load(Ordering::Relaxed));
-    println!("answers by number, 0 to 9: {answers:?}");
+    let answers = NUMBERS.map(|number| ANSWERS[number].load(Ordering::Relaxed));
+    println!("answers by number, 0 to 9 and 14: {answers:?}");
     if answers.contains(&0) {
         failed += 1;
         println!("FAILED: a number was never answered");

@@ -98,7 +98,7 @@ fn start(random: &mut Random, n: usize, mix: Mix) -> Result<Vec<u32>, String> {
 pub fn refusals(effort: Effort) -> Compared {
     effort.each(6000, |random| {
         let n = 32 * (1 + random.below(2));
-        let mix = Mix { versions: 1 + random.below(16), keys: Keys::Below(40), illegal: 12 };
+        let mix = Mix { versions: 1 + random.below(16), keys: Keys::Below(40), illegal: 12, large: 4 };
         let whole = start(random, n, mix)?;
         for _ in 0..30 {
             let mut block = whole.clone();

@@ -10,7 +10,7 @@ pub fn small(effort: Effort) -> Compared {
     effort.each(4000, |random| {
         let n = 32 * (1 + random.below(3));
         let keys = if random.once_in(4) { Keys::Any } else { Keys::Below(2 + random.below(40)) };
-        let mix = Mix { versions: 1 + random.below(16), keys, illegal: 200 };
+        let mix = Mix { versions: 1 + random.below(16), keys, illegal: 200, large: random.pick(&[2, 20, 200]) };
         history(random, &mut Trio::fresh(n), mix, 150)
     })
 }
@@ -20,7 +20,7 @@ pub fn large(effort: Effort) -> Compared {
     effort.each(30, |random| {
         let n = random.pick(&[1024, 2016, 4096]);
         let keys = if random.once_in(2) { Keys::Any } else { Keys::Below(n / 2) };
-        let mix = Mix { versions: 2 + random.below(4), keys, illegal: 500 };
+        let mix = Mix { versions: 2 + random.below(4), keys, illegal: 500, large: random.pick(&[2, 1000, 10_000]) };
         let mut trio = Trio::fresh(n);
         let grown = n / 4;
         for _ in 0..grown {

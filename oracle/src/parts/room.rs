@@ -4,7 +4,7 @@ use super::uneven::{self, Lean};
 use super::{Compared, Effort};
 use crate::call::Call;
 use crate::history::{Keys, Mix, Trio};
-use crate::plain::{makes, NO_ROOM};
+use crate::plain::{exceeds, makes, NO_ROOM};
 use crate::random::Random;
 use crate::rules::Supply;
 use crate::table::Table;
@@ -36,13 +36,13 @@ pub fn exact(effort: Effort) -> Compared {
     effort.each(2000, |random| {
         let n = 32 * (4 + random.below(4));
         let bound = 8 + random.below(40);
-        let mix = Mix { versions: 3, keys: Keys::Below(bound), illegal: usize::MAX };
+        let mix = Mix { versions: 3, keys: Keys::Below(bound), illegal: usize::MAX, large: random.pick(&[2, 50]) };
         let mut trio = Trio::of(if random.once_in(2) { uneven::table(random, n / 4, 3, bound) } else { Table::fresh(n / 4) });
         trio = Trio::of(Table { n, ..trio.table });
         let mut compared = 0;
         for _ in 0..20 {
             let call = mix.edit(random);
-            let made = if call.rule_known() { makes(&trio.table, &call) } else { 0 };
+            let made = if call.rule_known() && !exceeds(&trio.table, &call) { makes(&trio.table, &call) } else { 0 };
             if (1..=trio.table.free().len()).contains(&made) {
                 compared += both(random, &trio.table, &call, made)?;
             }

@@ -75,7 +75,7 @@ pub fn edits(effort: Effort) -> Compared {
         let versions = 2 + random.below(3);
         let bound = 8 + random.below(2 * n);
         let mut trio = Trio::of(table(random, n, versions, bound));
-        let mix = Mix { versions, keys: Keys::Below(bound), illegal: 500 };
+        let mix = Mix { versions, keys: Keys::Below(bound), illegal: 500, large: 20 };
         for _ in 0..12 {
             let call = if random.once_in(4) { mix.question(random, n) } else { mix.edit(random) };
             trio.step(&call)?;

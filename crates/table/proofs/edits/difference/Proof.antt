@@ -1,6 +1,6 @@
 -- The rule's number is known and may cancel, and the difference of the two roots ends as every edit does.
 use borrow.Author.Needs.{needs}
-use mathlib.Core.Path.{_∙_}
+use mathlib.Core.Path.{refl, _∙_}
 use native.Mathlib.Omega.{arith}
 use Rattle.model.specs.Calls.{Edit, lessening}
 use Rattle.table.proofs.Admitting.{Admission, admission, three-known, admitted-edit}

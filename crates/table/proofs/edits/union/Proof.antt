@@ -1,40 +1,54 @@
--- The rule's number is known, and the union of the two roots ends as every edit does.
+-- The rule's number is known and its sums fit, and the union of the two roots ends as every edit does.
 use borrow.Author.Needs.{needs}
-use mathlib.Core.Path.{_∙_}
+use mathlib.Core.Path.{_≡_, _∙_}
+use mathlib.Core.Bool.{true}
 use native.Mathlib.Omega.{arith}
 use Rattle.model.specs.Calls.{Edit, uniting}
 use Rattle.model.proofs.Orders.{union-ordered}
 use Rattle.model.proofs.Versions.{version-ordered}
 use Rattle.table.proofs.Admitting.{Admission, admission, three-known, admitted-edit}
-use Rattle.table.proofs.Settling.{Source, Run, pair-pieces, pair-asks, settle-asks, settled, plain-ended, rule-known, rule-unknown, rule-refused}
-use Rattle.table.proofs.Rules.{united}
+use Rattle.table.proofs.Settling.{Source, source-summable, Begun, Run, pair-pieces, pair-asks, settle-asks, settled, plain-ended, rule-known, rule-unknown, rule-refused, sum-refused}
+use Rattle.table.proofs.Rules.{united, fits-told}
 use Rattle.table.proofs.edits.union.Statement.{statement}
 use Rattle.table.proofs.edits.union.Tie as tie
 
 abbrev edit : tie.Start → Edit
 edit st = let a = st .args in uniting (a .b .now) (a .dst) (a .left) (a .right) (a .rule)
 
-admitted : (c : tie.Else1) → Admission (c .before .before .before .before .args .b .now) (c .before .before .before .before .args .dst) (c .before .before .before .before .args .left) (c .before .before .before .before .args .right)
+admitted : (c : tie.Else1) → let a = c .before .before .before .before .args in Admission (a .b .now) (a .dst) (a .left) (a .right)
 admitted c = admission _ _ _ (c .before .admit .ensures) (c .if1 .left)
 
-sources : (c : tie.After-root2) → Source (c .before .before .before .before .before .before .before .before .before .before .before .before .args .b .now) (c .before .before .before .before .before .before .before .before .before .before .before .before .args .left) (c .before .before .root .result) × Source (c .before .before .before .before .before .before .before .before .before .before .before .before .args .b .now) (c .before .before .before .before .before .before .before .before .before .before .before .before .args .right) (c .root2 .result)
+sources : (c : tie.After-root2) → let a = c .before .before .before .before .before .before .before .before .before .before .args in Source (a .b .now) (a .left) (c .before .before .root .result) × Source (a .b .now) (a .right) (c .root2 .result)
 sources c =
-    let A = admitted (c .before .before .before .before .before .before .before .before) in
+    let A = admitted (c .before .before .before .before .before .before) in
     (record { sound = A .sound; known = A .second; is = c .before .before .root .ensures }, record { sound = A .sound; known = A .third; is = c .root2 .ensures })
 
-run : (c : tie.After-union) → Run (c .before .before .before .before .before .before .before .before .before .before .before .before .before .before .args .b .now) (c .union .last .0) (c .before .before .before .before .before .before .makes-from .result) (c .union .result) (edit (c .before .before .before .before .before .before .before .before .before .before .before .before .before .before))
-run c =
-    let A = admitted (c .before .before .before .before .before .before .before .before .before .before) in
-    let S = sources (c .before .before) in
-    let a = c .before .before .before .before .before .before .before .before .before .before .before .before .before .before .args in
-    let legal = rule-known (c .before .before .before .before .before .before .before .before .before .union-rule .result) (c .before .before .before .before .before .before .before .before .before .union-rule .ensures) (c .before .before .before .before .before .before .before .before .if2 .left) in
+legal : (c : tie.Else2) → edit (c .before .before .before .before .before .before) .legal ≡ true
+legal c = rule-known (c .before .union-rule .result) (c .before .union-rule .ensures) (c .if2 .left)
+
+begun : (c : tie.Else3) → Begun (c .before .before .before .before .before .before .before .before .before .before .before .before .before .args .b .now) (edit (c .before .before .before .before .before .before .before .before .before .before .before .before .before))
+begun c =
+    let A = admitted (c .before .before .before .before .before .before .before .before .before) in
+    let S = sources (c .before .before .before) in
     record {
-      begun = record { sound = A .sound; versions = three-known (A .first) (A .second) (A .third); legal = legal };
-      low-is = c .before .before .before .before .before .before .makes-from .ensures;
+      sound = A .sound;
+      versions = three-known (A .first) (A .second) (A .third);
+      legal = legal (c .before .before .before .before .before .before .before);
+      fits = rule-known (c .before .fits2 .result) (fits-told _ (S .0) (S .1) (c .before .fits2 .ensures)) (c .if3 .left);
+    }
+
+run : (c : tie.After-union) → Run (c .before .before .before .before .before .before .before .before .before .before .before .before .before .before .before .before .before .args .b .now) (c .union .last .0) (c .before .before .makes-from .result) (c .union .result) (edit (c .before .before .before .before .before .before .before .before .before .before .before .before .before .before .before .before .before))
+run c =
+    let B = begun (c .before .before .before .before) in
+    let S = sources (c .before .before .before .before .before .before .before) in
+    let a = c .before .before .before .before .before .before .before .before .before .before .before .before .before .before .before .before .before .args in
+    record {
+      begun = B;
+      low-is = c .before .before .makes-from .ensures;
       pieces = _;
       named = pair-pieces (S .0) (S .1);
-      out = united (S .0) (S .1) (c .union .ensures);
-      ordered = union-ordered _ _ _ _ (version-ordered (A .sound .sound) (a .left) (A .second)) (version-ordered (A .sound .sound) (a .right) (A .third));
+      out = united (a .rule) (S .0) (S .1) (B .legal) (B .fits) (c .union .ensures);
+      ordered = union-ordered _ _ _ _ (version-ordered (B .sound .sound) (a .left) (S .0 .known)) (version-ordered (B .sound .sound) (a .right) (S .1 .known));
     }
 
 admit-requires : tie.Need-admit-requires
@@ -63,23 +77,14 @@ returns-2 c =
     let A = admitted (c .before .before .before) in
     rule-refused (edit (c .before .before .before .before .before .before .before)) (A .sound) (three-known (A .first) (A .second) (A .third)) (rule-unknown (c .before .before .union-rule .result) (c .before .before .union-rule .ensures) (c .before .if2 .taken)) (c .plain2 .ensures)
 
-makes-from-requires : tie.Need-makes-from-requires
-makes-from-requires c κs = admitted (c .before .before .before) .sound .shaped
-
 root-requires : tie.Need-root-requires
-root-requires c κs = let A = admitted (c .before .before .before .before .before) in (A .sound .shaped, A .second)
+root-requires c κs = let A = admitted (c .before .before .before) in (A .sound .shaped, A .second)
 
 root-requires-2 : tie.Need-root-requires-2
-root-requires-2 c κs = let A = admitted (c .before .before .before .before .before .before .before) in (A .sound .shaped, A .third)
+root-requires-2 c κs = let A = admitted (c .before .before .before .before .before) in (A .sound .shaped, A .third)
 
-union-requires : tie.Need-union-requires
-union-requires c κs = let S = sources (c .before) in pair-asks (S .0) (S .1)
-
-settle-requires : tie.Need-settle-requires
-settle-requires c κs =
-    let R = settle-asks (run (c .before .before .before)) in
-    let A = admitted (c .before .before .before .before .before .before .before .before .before .before .before .before .before) in
-    (R .0, search needs, R .1, R .2, R .3)
+fits-requires : tie.Need-fits-requires
+fits-requires c κs = let S = sources (c .before) in (source-summable (S .0), source-summable (S .1))
 
 plain-requires-3 : tie.Need-plain-requires-3
 plain-requires-3 c κs = search needs
@@ -89,8 +94,32 @@ same-length-3 c = search needs
 
 returns-3 : tie.Need-returns-3
 returns-3 c =
+    let A = admitted (c .before .before .before .before .before .before .before .before .before .before) in
+    let S = sources (c .before .before .before .before) in
+    sum-refused (edit (c .before .before .before .before .before .before .before .before .before .before .before .before .before .before)) (A .sound) (three-known (A .first) (A .second) (A .third)) (legal (c .before .before .before .before .before .before .before .before)) (rule-unknown (c .before .before .fits2 .result) (fits-told _ (S .0) (S .1) (c .before .before .fits2 .ensures)) (c .before .if3 .taken)) (c .plain3 .ensures)
+
+makes-from-requires : tie.Need-makes-from-requires
+makes-from-requires c κs = admitted (c .before .before .before .before .before .before .before .before .before .before) .sound .shaped
+
+union-requires : tie.Need-union-requires
+union-requires c κs = let S = sources (c .before .before .before .before .before .before) in pair-asks (S .0) (S .1)
+
+settle-requires : tie.Need-settle-requires
+settle-requires c κs =
+    let R = settle-asks (run (c .before .before .before)) in
+    let A = admitted (c .before .before .before .before .before .before .before .before .before .before .before .before .before .before .before .before) in
+    (R .0, search needs, R .1, R .2, R .3)
+
+plain-requires-4 : tie.Need-plain-requires-4
+plain-requires-4 c κs = search needs
+
+same-length-4 : tie.Need-same-length-4
+same-length-4 c = search needs
+
+returns-4 : tie.Need-returns-4
+returns-4 c =
     let s = c .before .before .before .settle in
-    settled (run (c .before .before .before .before .before .before .before)) (s .result) (s .ensures) (c .plain3 .ensures ∙ plain-ended (s .result)) (λ i. omega (arith, c .before .before .before .before .before .before .before .before .before .before .before .before .before .before .before .before .before .before .before .before .slice-known .given i)) (λ i. omega (arith, c .before .slice-known3 .given i))
+    settled (run (c .before .before .before .before .before .before .before)) (s .result) (s .ensures) (c .plain4 .ensures ∙ plain-ended (s .result)) (λ i. omega (arith, c .before .before .before .before .before .before .before .before .before .before .before .before .before .before .before .before .before .before .before .before .before .before .before .slice-known .given i)) (λ i. omega (arith, c .before .slice-known3 .given i))
 
 pub union-spec : {M : Type 1} → statement M
 union-spec =
@@ -104,11 +133,15 @@ union-spec =
     plain-requires-2
     same-length-2
     returns-2
-    makes-from-requires
     root-requires
     root-requires-2
-    union-requires
-    settle-requires
+    fits-requires
     plain-requires-3
     same-length-3
-    returns-3)
+    returns-3
+    makes-from-requires
+    union-requires
+    settle-requires
+    plain-requires-4
+    same-length-4
+    returns-4)
