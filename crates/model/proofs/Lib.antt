@@ -26,6 +26,7 @@ pub mod Reach
 pub mod Bound
 pub mod Lookups
 pub mod Sums
+pub mod Totals
 pub mod Words
 pub mod Bits
 pub mod Unique

@@ -1,7 +1,7 @@
 -- The calls in a user's words: what a done edit holds afterwards, that a refused one changes nothing, and when there is no room.
 use mathlib.Core.Path.{_≡_, ap, sym, _∙_}
 use mathlib.Core.Logic.{_≢_}
-use Prim.Native.Nat.{ℕ, suc, _<_}
+use Prim.Native.Nat.{ℕ, suc, _+_, _<_}
 use mathlib.Core.Bool.{Bool, true, false, not, _&&_, true≢false}
 use mathlib.Core.List.{List, [], _∷_}
 use lib.ListN.{length}
@@ -21,6 +21,7 @@ use Rattle.model.proofs.Entries.{lookup-entries, insert-entries}
 use Rattle.model.proofs.Edits.{size-length, remove-entries}
 use Rattle.model.proofs.Sums.{turned-none, whole-all}
 use Rattle.model.proofs.Listings.{listing-alone}
+use Rattle.model.proofs.Totals.{union-sums}
 use Rattle.model.proofs.Versions.{version-ordered, union-entries, difference-entries, cancelling-changes-nothing}
 
 -- a refusal's number is not 0
@@ -100,6 +101,14 @@ unfolding Versions
 union-merges {b} dst left right rule E z =
     let D = edit-done (uniting b dst left right rule) E z in
     rw (D .edited .here) (union-entries (heap b) (D .sound .sound) rule left right (D .versions .1 .0) (D .versions .1 .1 .0) (supply (heap b)))
+
+-- a union by sums loses no minutes: the destination holds those of both sides
+pub union-keeps-minutes : {b after : List ℕ} {a : Answer} (dst left right : ℕ) → Edits b after (uniting b dst left right 4) a → a .number ≡ 0
+    → minutes (entries (version (heap after) dst)) ≡ minutes (entries (version (heap b) left)) + minutes (entries (version (heap b) right))
+unfolding Versions
+union-keeps-minutes {b} dst left right E z =
+    let D = edit-done (uniting b dst left right 4) E z in
+    ap (λ t. minutes (entries t)) (D .edited .here) ∙ union-sums (version (heap b) left) (version (heap b) right) (supply (heap b)) (version-ordered (D .sound .sound) left (D .versions .1 .0)) (version-ordered (D .sound .sound) right (D .versions .1 .1 .0))
 
 -- after difference each key has the left value, by the rule where the right side has the key too; cancelling changes nothing of that
 pub difference-lessens : {b after : List ℕ} {a : Answer} (dst left right rule : ℕ) (cancel : Bool) → Edits b after (lessening b dst left right rule cancel) a → a .number ≡ 0

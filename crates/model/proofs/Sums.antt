@@ -32,7 +32,7 @@ block-sum b W L = sum-most (heap b) L (node-small b W 1)
 abbrev pub summed : (ℕ → Bool) → List Entry → ℕ
 summed p es = minutes (those p es)
 
-minutes-mid : (xs ys : List Entry) (k v : ℕ) → minutes (xs ++ (k, v) ∷ ys) ≡ v + (minutes xs + minutes ys)
+pub minutes-mid : (xs ys : List Entry) (k v : ℕ) → minutes (xs ++ (k, v) ∷ ys) ≡ v + (minutes xs + minutes ys)
 unfolding minutes
 minutes-mid [] ys k v = omega arith
 minutes-mid (x ∷ xs) ys k v = omega (arith, minutes-mid xs ys k v)

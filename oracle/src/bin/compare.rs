@@ -6,7 +6,7 @@ use std::process::ExitCode;
 use std::sync::atomic::Ordering;
 use std::time::Instant;
 
-const PARTS: [(&str, fn(Effort) -> Compared); 14] = [
+const PARTS: [(&str, fn(Effort) -> Compared); 15] = [
     ("worked cases of document 01", cases::worked),
     ("fresh blocks at every N", limits::fresh),
     ("inboxes: begin and missing", limits::inboxes),
