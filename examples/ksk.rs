@@ -42,6 +42,7 @@ pub enum Refusal {
     Frame,
     Batch,
     Count,
+    Sum,
 }
 
 impl fmt::Display for Refusal {
@@ -52,7 +53,7 @@ impl fmt::Display for Refusal {
 
 impl Error for Refusal {}
 
-/// The value of a common key in a union.
+/// The value of a common key in a union; a sum that does not fit is `Refusal::Sum`.
 #[derive(Clone, Copy, Debug)]
 pub enum Merge {
     Left = 0,
@@ -98,7 +99,8 @@ fn done(number: u32) -> Result<(), Refusal> {
         7 => Refusal::Frame,
         8 => Refusal::Batch,
         9 => Refusal::Count,
-        other => unreachable!("the table gives numbers 0 to 9, not {other}"),
+        14 => Refusal::Sum,
+        other => unreachable!("the table gives numbers 0 to 9 and 14, not {other}"),
     })
 }
 

@@ -16,7 +16,7 @@
 extern "C" {
 #endif
 
-/* Numbers a call gives back, in the order in which they are checked: 1, 2, 3, 4, 7, 8, 9, 6, 5. */
+/* Numbers a call gives back, in the order in which they are checked: 1, 2, 3, 4, 14, 7, 8, 9, 6, 5. */
 #define KSK_DONE     0u
 #define KSK_SHAPE    1u /* block length or N is wrong, or inbox not 130 words */
 #define KSK_DAMAGED  2u /* block not sound, or inbox not sound */
@@ -27,6 +27,7 @@ extern "C" {
 #define KSK_FRAME    7u /* line malformed */
 #define KSK_BATCH    8u /* another batch number */
 #define KSK_COUNT    9u /* inbox count not zero and unlike the frame's */
+#define KSK_SUM      14u /* union rule 4: the sum of a common key is above 4,294,967,295 */
 
 /* Numbers of the ledger, in the order in which they are checked. */
 #define KSK_ACCOUNTS     21u /* the ledger is not three words for each of 1 to 256 accounts; fresh: or not of the number given */
@@ -79,7 +80,8 @@ uint32_t ksk_copy(uint32_t *block, size_t words, uint32_t dest, uint32_t source)
 /* A version becomes empty. */
 uint32_t ksk_clear(uint32_t *block, size_t words, uint32_t version);
 
-/* Version dest becomes the union. Rule for a common key: 0 left, 1 right, 2 smaller, 3 larger, 4 sum held at 4,294,967,295. */
+/* Version dest becomes the union. Rule for a common key: 0 left, 1 right, 2 smaller, 3 larger, 4 sum. A sum that does not fit is not held at the largest value, as
+ * document 01 had it: the call answers KSK_SUM, before it asks for room. A version united with itself counts its own keys. A done union by rule 4 holds the minutes of both. */
 uint32_t ksk_union(uint32_t *block, size_t words, uint32_t dest, uint32_t left, uint32_t right, uint32_t rule);
 
 /* Version dest becomes left less right. Rule for a common key: 0 drop; 1 drop if equal, else left; 2 left; 3 left minus right if larger, else drop.

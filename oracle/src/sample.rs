@@ -51,7 +51,7 @@ fn key(random: &mut Random) -> u32 {
     drawn.checked_sub(SMALL_KEYS).map_or(drawn as u32, |edge| EDGES[edge])
 }
 
-/// Mostly small, so that equal values meet; sometimes so large that a sum is held.
+/// Mostly small, so that equal values meet; sometimes so large that a sum does not fit.
 fn value(random: &mut Random) -> u32 {
     match random.below(12) {
         0 => random.pick(&EDGES),
@@ -135,9 +135,20 @@ fn tree(spot: Option<Spot>, text: &mut String) {
     }
 }
 
+/// A union by sums in which one does not fit. The original would have to do something about it; the table refuses the call.
+fn exceeds(maps: &[Map], call: &Call) -> bool {
+    let Call::Union { left, right, rule: 4, .. } = *call else { return false };
+    let right = &maps[right as usize];
+    let sum = |row: &[u32; 4]| row[1] as u64 + right.get(&row[0]).map_or(0, |&value| value as u64);
+    original::rows(&maps[left as usize], &Map::new()).iter().any(|row| sum(row) > u32::MAX as u64)
+}
+
 /// Does a call on the original, and says what it answered and, after an edit, what the destination is.
 fn answer(maps: &mut [Map], call: &Call) -> String {
     let mut text = name(call).to_string();
+    if exceeds(maps, call) {
+        return text + " refused 14\n";
+    }
     match *call {
         Call::Lookup { version, key } => text += &format!(" {}", or_dash(maps[version as usize].get(&key).copied())),
         Call::Size { version } => text += &format!(" {}", maps[version as usize].len()),
@@ -158,10 +169,10 @@ fn answer(maps: &mut [Map], call: &Call) -> String {
     text + "\n"
 }
 
-/// Calls of one kind: rules, and cancelling, are kinds of their own.
-fn kind(call: &Call) -> String {
+/// Calls of one kind: rules, cancelling and refusals are kinds of their own.
+fn kind(call: &Call, refused: bool) -> String {
     match *call {
-        Call::Union { rule, .. } => format!("union by {rule}"),
+        Call::Union { rule, .. } => format!("union by {rule}{}", if refused { " refused" } else { "" }),
         Call::Difference { rule, cancel, .. } => format!("difference by {rule}{}", ["", " cancelling"][cancel as usize]),
         _ => name(call).to_string(),
     }
@@ -176,8 +187,9 @@ fn main() {
     for _ in 0..CALLS {
         let call = draw(&mut random);
         writeln!(calls, "{}", fields(&call).map(|field| field.to_string()).join(" ")).unwrap();
+        let refused = exceeds(&maps, &call);
         answers += &answer(&mut maps, &call);
-        *kinds.entry(kind(&call)).or_insert(0) += 1;
+        *kinds.entry(kind(&call, refused)).or_insert(0) += 1;
         largest = largest.max(maps.iter().map(Map::len).max().unwrap());
     }
     std::fs::write(calls_file, &calls).unwrap();

@@ -146,6 +146,6 @@ pub limit-exceeded : sumsFit ((1, 4294967294) ∷ (2, 7) ∷ []) ((1, 2) ∷ [])
 unfolding sumsFit cut
 limit-exceeded = refl
 
-pub beside-itself : sumsFit ((1, 2147483648) ∷ []) ((1, 2147483648) ∷ []) ≡ false
+pub beside-itself : sumsFit ((1, 3000000000) ∷ []) ((1, 3000000000) ∷ []) ≡ false
 unfolding sumsFit cut
 beside-itself = refl
