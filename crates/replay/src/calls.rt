@@ -16,7 +16,7 @@ use table::remove;
 use table::size;
 use table::union;
 
-// A call that is refused says so: the original refuses nothing, so the comparison shows it.
+// A call that is refused says so: of the sample's calls only a sum that does not fit may be.
 fn refused(number: u32) -> bool {
     if number == 0 {
         return false;
