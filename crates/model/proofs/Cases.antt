@@ -106,13 +106,6 @@ gathered =
     let r = built l leaf ((2, 21) ∷ (4, 41) ∷ (6, 61) ∷ []) in
     union (mergeBy 4) l r (supplyBeside l r) .0
 
--- two values whose sum is above the highest
-abbrev held : Option ℕ
-held =
-    let l = built leaf leaf ((1, 4294967295) ∷ []) in
-    let r = built l leaf ((1, 2) ∷ []) in
-    lookup (union (mergeBy 4) l r (supplyBeside l r) .0) 1
-
 -- document 01's example: the line 000000070000000101000000030000001f
 abbrev example : Frame
 example = record { batch = 7; index = 0; count = 1; kind = 1; key = 3; value = 31 }
@@ -188,7 +181,6 @@ table =
       shown = stands gathered;
       told = stands (node 12 4 41 (node 11 2 41 (node 6 1 10 leaf leaf) (node 10 3 30 leaf leaf)) (node 5 5 50 leaf (node 4 6 61 leaf leaf)));
     }
-    ∷ record { number = 0; shown = finds held; told = finds (some 4294967295) }
     ∷ record { number = 0; shown = writes (part 4 1 11 (map rowWords (listing (four .0) copy .rows))); told = writes (3 ∷ 30 ∷ 1 ∷ 30 ∷ 4 ∷ 40 ∷ 1 ∷ 44 ∷ []) }
     ∷ record { number = 0; shown = writes (part 4 2 8 (map rowWords (listing three leaf .rows))); told = writes (3 ∷ 30 ∷ 0 ∷ 0 ∷ []) }
     ∷ record { number = 0; shown = writes (laid (listed before 0 1 .pieces)); told = writes (1 ∷ 10 ∷ 0 ∷ 0 ∷ []) }
