@@ -1,5 +1,5 @@
 -- A union by sums holds the minutes of both trees: each split loses none, and a common key's two values go in as their sum.
-use mathlib.Core.Path.{_≡_, refl, ap, sym, _∙_}
+use mathlib.Core.Path.{_≡_, refl, ap, _∙_}
 use Prim.Native.Nat.{ℕ, zero, suc, _+_, _<_, compare, Ordering, Ordering·lt, Ordering·eq, Ordering·gt}
 use mathlib.Core.Bool.{Bool, true, false}
 use mathlib.Core.Option.{Option, none, some}
@@ -8,10 +8,10 @@ use lib.Dec.{leb}
 use native.Mathlib.Omega.{arith}
 use Rattle.model.specs.Tree.{Tree, leaf, node, Entry, size, entries, cut, Ordered}
 use Rattle.model.specs.Supply.{Supply, given}
-use Rattle.model.specs.Rules.{join, Parts, split, mergedLeft, mergedRight, mergeBy, unionBy, union}
+use Rattle.model.specs.Rules.{join, split, mergedLeft, mergedRight, mergeBy, unionBy, union}
 use Rattle.model.specs.Sums.{minutes}
 use Rattle.model.proofs.Entries.{join-keeps}
-use Rattle.model.proofs.Edits.{shown, split-entries}
+use Rattle.model.proofs.Edits.{split-entries}
 use Rattle.model.proofs.Sums.{minutes-mid}
 use Rattle.model.proofs.Unions.{SplitFacts, split-facts}
 

@@ -1,12 +1,12 @@
 -- The test of the sums is right because each side of a key is looked for where the other tree has that side's keys, and no value is above the sum that is stored over it.
 use mathlib.Core.Path.{_≡_, refl, ap, ap₂, sym, subst, _∙_}
 use Prim.Native.Nat.{ℕ, _+_, _-_, _≤_, _<_}
-use mathlib.Core.Bool.{Bool, true, false, _&&_, not, true≢false}
+use mathlib.Core.Bool.{Bool, true, false, _&&_, not}
 use mathlib.Core.List.{List}
 use lib.Dec.{leb}
 use borrow.Author.Tests.{leb-true, leb-false, le-leb, lt-leb}
 use native.Mathlib.Omega.{arith}
-use Rattle.model.specs.Tree.{node, Entry, entries, find, lookup, AllBelow, AllAbove, Ordered}
+use Rattle.model.specs.Tree.{node, Entry, entries, find, lookup, Ordered}
 use Rattle.model.specs.Rules.{sumFits, sumsFit}
 use Rattle.model.specs.Heap.{sumAt, load, tree}
 use Rattle.model.specs.Block.{heap}
