@@ -1,6 +1,6 @@
 -- The test ends because a child is smaller than its node. An empty side or a small sum decides at once; else the root's key and both of its sides do.
 use native.Mathlib.Omega.{arith}
-use Prim.Native.Nat.{ℕ}
+use Prim.Native.Nat.{ℕ, _<_}
 use borrow.Fn.Kinds.{In, Out}
 use borrow.Author.Needs.{needs}
 use borrow.Fn.PlainCycle.{Measures, is, falls, and}
