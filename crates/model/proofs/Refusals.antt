@@ -145,8 +145,8 @@ pub sum-exactly : {b after : List ℕ} {a : Answer} (dst left right rule : ℕ) 
 unfolding Versions
 sum-exactly {b} {after} {a} dst left right rule E = (
   (λ z. let x = edit-numbers (unites dst left right rule) E .sum .0 z in
-    let (four, exceeds) = unfit-means rule _ _ (ordered-sorted _ (version-ordered (x .0 .sound) left (x .1 .1 .0))) (λ t. true≢false (sym t ∙ x .3)) in
-    record { sound = x .0; versions = x .1; four = four; exceeds = exceeds }),
+      let (four, exceeds) = unfit-means rule _ _ (ordered-sorted _ (version-ordered (x .0 .sound) left (x .1 .1 .0))) (λ t. true≢false (sym t ∙ x .3)) in
+      record { sound = x .0; versions = x .1; four = four; exceeds = exceeds }),
   (λ (O : Oversum b dst left right rule). edit-numbers (unites dst left right rule) E .sum .1 (O .sound, O .versions, le-leb rule 4 (omega (arith, O .four)), not-true (uniting b dst left right rule .fits) (means-unfit rule _ _ (O .four) (O .exceeds)))),
 )
 
