@@ -25,15 +25,24 @@ fn version(random: &mut Random) -> u32 {
     random.below(EDITED) as u32
 }
 
-/// One random edit, done or refused for room. Gives its destination.
+/// Whether a key of both versions has a sum that does not fit a word: then a union by sums is refused.
+fn exceeds(block: &[u32], left: u32, right: u32) -> bool {
+    let right = read(block, right);
+    let beside = |key: u32| right.iter().find(|entry| entry.0 == key).map_or(0, |entry| entry.1);
+    read(block, left).iter().any(|&(key, value)| value.checked_add(beside(key)).is_none())
+}
+
+/// One random edit, done, or refused for room or for a sum. Gives its destination.
 fn edit(random: &mut Random, block: &mut [u32], keys: usize) -> Result<u32, String> {
     let (dest, left, right) = (version(random), version(random), version(random));
     let (key, value) = (key(random, keys), Values::Mixed.draw(random));
     let source = if random.once_in(3) { left } else { dest };
-    let number = match random.below(20) {
+    let (kind, rule) = (random.below(20), random.below(5) as u32);
+    let unfit = (13..=15).contains(&kind) && rule == 4 && exceeds(block, left, right);
+    let number = match kind {
         0..=9 => calls::insert(block, dest, source, key, value).0,
         10..=12 => calls::remove(block, dest, source, key),
-        13..=15 => calls::union(block, dest, left, right, random.below(5) as u32),
+        13..=15 => calls::union(block, dest, left, right, rule),
         16 | 17 => {
             let rule = random.below(4) as u32;
             calls::difference(block, dest, left, right, rule, if rule == 2 { 0 } else { random.below(2) as u32 })
@@ -42,7 +51,8 @@ fn edit(random: &mut Random, block: &mut [u32], keys: usize) -> Result<u32, Stri
         _ => calls::clear(block, dest),
     };
     match number {
-        0 | 5 => Ok(dest),
+        0 | 5 if !unfit => Ok(dest),
+        14 if unfit => Ok(dest),
         _ => Err(format!("an edit of {dest} gives {number}")),
     }
 }
