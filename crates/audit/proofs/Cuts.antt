@@ -5,13 +5,14 @@ use mathlib.Core.Bool.{Bool, false}
 use mathlib.Core.List.{List}
 use lib.ListN.{length, getD, drop, take, length-drop, length-take}
 use lib.Seq.{getD-drop, getD-take, take-all}
-use borrow.Author.Tests.{lt-ltb, le-ltb}
+use borrow.Author.Tests.{le-ltb}
 use native.Mathlib.Omega.{arith}
-use native.Mathlib.Nat.{zero-div, le-of-eq}
+use native.Mathlib.Nat.{le-of-eq}
 use native.Mathlib.Decide.{decLt}
 use Rattle.model.specs.Heap.{Blank, Sound}
 use Rattle.model.specs.Block.{word, room, width, nodeWord, occupiedAt, heap, Shaped, SoundBlock}
 use Rattle.model.specs.Tells.{Tells}
+use Rattle.model.proofs.Bits.{word-free}
 use Rattle.model.proofs.Tells.{tells-map}
 use Rattle.area.specs.Area.{areaWord}
 use Rattle.area.specs.Notes.{Zeros}
@@ -33,7 +34,7 @@ module _ (b a : List ℕ) (B : Shaped b) (ea : a ≡ nodesOf b) (w : ℕ) (le : 
   free (suc k) p = go (decLt k (room b))
     where
       go : Dec (k < room b) → occupiedAt b (suc k) ≡ false
-      go (yes q) = rw (lt-ltb k (room b) q, none (k / 32) (omega arith) (omega (arith, B .whole)), zero-div (2 ^ (k % 32)))
+      go (yes q) = word-free b k (none (k / 32) (omega arith) (omega (arith, B .whole)))
       go (no q) = rw (le-ltb k (room b) (omega arith))
 
   -- in a sound block the words beyond are zeros

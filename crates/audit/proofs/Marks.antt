@@ -1,5 +1,5 @@
 -- Occupancy bits that come up one after another, and words of none.
-use mathlib.Core.Path.{_≡_, ap, sym, subst, _∙_}
+use mathlib.Core.Path.{_≡_, refl, ap, sym, subst, _∙_}
 use mathlib.Core.Logic.{_≢_}
 use Prim.Native.Nat.{ℕ, zero, suc, _+_, _-_, _*_, _/_, _%_, _^_, _≤_, _<_}
 use mathlib.Core.Bool.{Bool, false, true≢false}
@@ -10,11 +10,11 @@ use lib.Pow.{shr-shr}
 use borrow.Author.Tests.{lt-ltb, eq-eqb, ne-eqb}
 use native.Mathlib.Omega.{arith}
 use native.Mathlib.Numerals.{add-one}
-use native.Mathlib.Nat.{zero-div}
 use Rattle.model.specs.Block.{word, room, width, occupiedAt}
 use Rattle.model.specs.Tells.{Tells}
 use Rattle.area.specs.Area.{area}
 use Rattle.area.specs.Notes.{Zeros, Fair}
+use Rattle.model.proofs.Bits.{word-free}
 use Rattle.model.proofs.Tells.{tells-map, each-more, each-join}
 use Rattle.audit.specs.Whole.{MarkOk, MarksOk}
 
@@ -54,11 +54,8 @@ module _ (b a : List ℕ) (w j m : ℕ) (lt : j < 32) (in-room : 32 * w + j < ro
 -- an occupancy word of none
 module _ (b a : List ℕ) (w : ℕ) (within : 32 * w + 32 ≤ room b) (e : word b (17 + w) ≡ 0) where
   free : (i : ℕ) → 32 * w < i → i ≤ 32 * w + 32 → occupiedAt b i ≡ false
-  free i p q =
-      let j = i - 1 - 32 * w in
-      let z : 32 * w + j + 1 ≡ i = omega arith in
-      let none : 0 ≡ word b (17 + w) / 2 ^ j = sym (ap (λ x. x / 2 ^ j) e ∙ zero-div (2 ^ j)) in
-      ap (occupiedAt b) (sym z) ∙ mark-is b a w j 0 (omega arith) (omega arith) none
+  free zero p q = refl
+  free (suc k) p q = let at : 17 + k / 32 ≡ 17 + w = omega arith in word-free b k (ap (word b) at ∙ e)
 
   pub marks-none : (r : Bool) → Tells r (Zeros a (32 * width * w) (32 * width)) → Tells r (MarksOk b a (32 * w) (32 * w + 32))
   marks-none r = tells-map r there back

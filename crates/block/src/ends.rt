@@ -76,7 +76,19 @@ fn tidy(b: &mut [u32], n: u32)
     }
 }
 
-// Every node that nothing names is emptied. The call made none below `from`, so none of those is read.
+// The 32 nodes of an occupancy word, or those from `from` on, each emptied if nothing names it.
+fn tidy_word(b: &mut [u32], from: u32, end: u32)
+    requires { ⌜ Running (now b) × HeldBelow (heap (now b)) from × (1 ≤ from) × (from ≤ end) × (end ≤ room (now b) + 1) ⌝ }
+    ensures { λ r. ⌜ Tidied (now (b .entry)) (now (b .exit)) end ⌝ }
+{
+    let mut i = from;
+    while i < end {
+        tidy(b, i);
+        i += 1;
+    }
+}
+
+// Every node that nothing names is emptied. The call made none below `from`, so none of those is read; nor are 32 free nodes, whose occupancy word is 0.
 pub fn sweep(b: &mut [u32], from: u32)
     requires { ⌜ Running (now b) × (1 ≤ from) × HeldBelow (heap (now b)) from ⌝ }
     ensures { λ r. ⌜ Swept (now (b .entry)) (now (b .exit)) ⌝ }
@@ -84,8 +96,12 @@ pub fn sweep(b: &mut [u32], from: u32)
     let n = b[0];
     let mut i = from;
     while i <= n {
-        tidy(b, i);
-        i += 1;
+        let w = (i - 1) / 32;
+        let next = 32 * w + 33;
+        if b[(17 + w) as usize] != 0 {
+            tidy_word(b, i, next);
+        }
+        i = next;
     }
 }
 

@@ -7,10 +7,11 @@ use mathlib.Core.List.{List}
 use lib.ListN.{set, length-set}
 use lib.Seq.{getD-set-same, getD-set-other}
 use native.Mathlib.Omega.{arith}
-use native.Mathlib.Decide.{ℕ-discrete}
+use native.Mathlib.Decide.{ℕ-discrete, decLt}
 use Rattle.model.specs.Heap.{Heap, Occupied, Named, tree, version, hit, Linked, Counted, Kept}
-use Rattle.model.specs.Block.{room, width, nodeWord, occupiedAt, heap, Shaped}
+use Rattle.model.specs.Block.{word, room, width, nodeWord, occupiedAt, heap, Shaped}
 use Rattle.model.specs.Moves.{Rooted, Raised, Gave, Owed, Paid, Freed, Running, Holds, FullBelow, HeldBelow, Tidied, Swept, Finished}
+use Rattle.model.proofs.Bits.{word-free}
 use Rattle.model.proofs.Counts.{hit-no}
 use Rattle.model.proofs.Giving.{same-linked, same-trees, same-refs, rooted-counted, gave-trans}
 use Rattle.model.proofs.Pieces.{stood-refs}
@@ -87,6 +88,17 @@ tidied-freed {b} {e} {n} R H S F = record {
 
 pub tidied-then : {b c e : List ℕ} {i j : ℕ} → Tidied b c i → Tidied c e j → Tidied b e j
 tidied-then {b} {c} {e} T U = record { running = U .running; gave = gave-trans (T .gave) (U .gave); held = U .held }
+
+-- no node of an occupancy word of 0 is occupied
+pub tidied-over : {b e : List ℕ} {n : ℕ} (w : ℕ) → Tidied b e n → 32 * w < n → word e (17 + w) ≡ 0 → Tidied b e (32 * w + 33)
+tidied-over {b} {e} {n} w T le z = record { running = T .running; gave = T .gave; held = λ m lt o. go m lt o (decLt m n) }
+  where
+    go : (m : ℕ) → m < 32 * w + 33 → Occupied (heap e) m → Dec (m < n) → 1 ≤ nodeWord e 5 m
+    go m lt o (yes p) = T .held m p o
+    go zero lt o (no p) = absurd (omega arith)
+    go (suc k) lt o (no p) =
+        let q : 17 + k / 32 ≡ 17 + w = omega arith in
+        absurd (true≢false (sym o ∙ word-free e k (ap (word e) q ∙ z)))
 
 pub swept : {b e : List ℕ} {n : ℕ} → Tidied b e n → room b < n → Swept b e
 swept {b} {e} {n} T lt = record {

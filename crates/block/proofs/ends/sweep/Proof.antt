@@ -1,11 +1,11 @@
--- Before each step all nodes below i have references; at the end all nodes do.
+-- Before each step all nodes below i have references; at the end all nodes do. A word of 0 has no node to look at.
 use native.Mathlib.Omega.{arith}
 use borrow.Author.Needs.{needs}
 use mathlib.Core.Path.{_≡_, refl}
-use Prim.Native.Nat.{_+_, _-_, _≤_}
+use Prim.Native.Nat.{_+_, _-_, _*_, _/_, _≤_}
 use Rattle.model.specs.Block.{room}
 use Rattle.model.specs.Moves.{Tidied}
-use Rattle.model.proofs.Ends.{tidied-start, tidied-then, swept}
+use Rattle.model.proofs.Ends.{tidied-start, tidied-over, tidied-then, swept}
 use Rattle.block.proofs.ends.sweep.Statement.{statement}
 use Rattle.block.proofs.ends.sweep.Tie as tie
 
@@ -21,21 +21,45 @@ slice-read-n c = search needs
 loop-holds : tie.Need-loop-holds Inv-loop μ-loop
 loop-holds c = let P = c .before .before .pre in (refl, P .1, tidied-start (P .0) (P .2))
 
-tidy-requires : tie.Need-tidy-requires Inv-loop μ-loop
-tidy-requires c κs =
-    let I = c .before .before .loop .inv in
-    (I .2 .running, I .2 .held, I .1, omega (arith, I .0, I .2 .gave .room, c .before .loop-test .taken))
+sub-w : tie.Need-sub-w Inv-loop μ-loop
+sub-w c = search needs
 
-add-i : tie.Need-add-i Inv-loop μ-loop
-add-i c = search needs
+mul-next : tie.Need-mul-next Inv-loop μ-loop
+mul-next c = search needs
+
+add-next : tie.Need-add-next Inv-loop μ-loop
+add-next c = search needs
+
+add-if1 : tie.Need-add-if1 Inv-loop μ-loop
+add-if1 c = search needs
+
+cast-if1 : tie.Need-cast-if1 Inv-loop μ-loop
+cast-if1 c = search needs
+
+mul-if1 : tie.Need-mul-if1 Inv-loop μ-loop
+mul-if1 c = search needs
+
+slice-read-if1 : tie.Need-slice-read-if1 Inv-loop μ-loop
+slice-read-if1 c = search needs
+
+tidy-word-requires : tie.Need-tidy-word-requires Inv-loop μ-loop
+tidy-word-requires c κs = search needs
 
 loop-less : tie.Need-loop-less Inv-loop μ-loop
-loop-less c = omega (arith, c .before .before .before .before .loop-test .taken)
+loop-less c = search needs
 
 loop-again : tie.Need-loop-again Inv-loop μ-loop
 loop-again c =
-    let I = c .before .before .before .before .before .loop .inv in
-    (I .0, omega arith, tidied-then (I .2) (c .before .before .tidy .ensures))
+    let I = c .before .before .before .before .before .before .before .loop .inv in
+    (I .0, omega arith, tidied-then (I .2) (c .before .before .tidy-word .ensures))
+
+loop-less-2 : tie.Need-loop-less-2 Inv-loop μ-loop
+loop-less-2 c = search needs
+
+loop-again-2 : tie.Need-loop-again-2 Inv-loop μ-loop
+loop-again-2 c =
+    let at = c .before .before .before .loop in
+    (at .inv .0, omega arith, tidied-over ((at .i - 1) / 32) (at .inv .2) (omega (arith, at .inv .1)) (c .if1 .left))
 
 same-length : tie.Need-same-length Inv-loop μ-loop
 same-length c =
@@ -55,9 +79,17 @@ sweep-spec =
     μ-loop
     slice-read-n
     loop-holds
-    tidy-requires
-    add-i
+    sub-w
+    mul-next
+    add-next
+    add-if1
+    cast-if1
+    mul-if1
+    slice-read-if1
+    tidy-word-requires
     loop-less
     loop-again
+    loop-less-2
+    loop-again-2
     same-length
     returns)
