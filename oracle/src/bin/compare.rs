@@ -3,7 +3,8 @@
 use oracle::exports::{ANSWERS, NUMBERS};
 use oracle::parts::{cases, damage, exhaustive, held, histories, ledger, limits, lines, link, room, sums, uneven, Compared, Effort};
 use std::process::ExitCode;
-use std::sync::atomic::Ordering;
+use std::sync::atomic::{AtomicUsize, Ordering};
+use std::thread;
 use std::time::Instant;
 
 const PARTS: [(&str, fn(Effort) -> Compared); 15] = [
@@ -24,24 +25,46 @@ const PARTS: [(&str, fn(Effort) -> Compared); 15] = [
     ("ledgers", ledger::all),
 ];
 
+/// Tells how a part ended: what it compared and what failed.
+fn tell(name: &str, ended: Compared, seconds: f64) -> (u64, u64) {
+    match ended {
+        Ok(compared) => {
+            println!("{name:50} {compared:9} compared, {seconds:.1} s");
+            (compared, 0)
+        }
+        Err(what) => {
+            println!("{name:50} FAILED: {what}");
+            (0, 1)
+        }
+    }
+}
+
+/// Runs all parts, as many at a time as the machine has processors; each is told when it ends.
+fn compared(effort: Effort) -> (u64, u64) {
+    let next = AtomicUsize::new(0);
+    let work = || {
+        let (mut passed, mut failed) = (0, 0);
+        while let Some((name, part)) = PARTS.get(next.fetch_add(1, Ordering::Relaxed)) {
+            let start = Instant::now();
+            let ended = part(effort);
+            let (compared, wrong) = tell(name, ended, start.elapsed().as_secs_f64());
+            passed += compared;
+            failed += wrong;
+        }
+        (passed, failed)
+    };
+    let workers = thread::available_parallelism().map_or(1, |n| n.get());
+    thread::scope(|scope| {
+        let all: Vec<_> = (0..workers).map(|_| scope.spawn(work)).collect();
+        all.into_iter().map(|one| one.join().expect("a part panicked")).fold((0, 0), |sum, one| (sum.0 + one.0, sum.1 + one.1))
+    })
+}
+
 fn main() -> ExitCode {
     let mut numbers = std::env::args().skip(1).map(|text| text.parse().expect("seed and times are numbers"));
     let effort = Effort { seed: numbers.next().unwrap_or(1), times: numbers.next().unwrap_or(1) };
     println!("seed {}, {} times", effort.seed, effort.times);
-    let (mut passed, mut failed) = (0, 0);
-    for (name, part) in PARTS {
-        let start = Instant::now();
-        match part(effort) {
-            Ok(compared) => {
-                passed += compared;
-                println!("{name:50} {compared:9} compared, {:.1} s", start.elapsed().as_secs_f64());
-            }
-            Err(what) => {
-                failed += 1;
-                println!("{name:50} FAILED: {what}");
-            }
-        }
-    }
+    let (passed, mut failed) = compared(effort);
     let answers = NUMBERS.map(|number| ANSWERS[number].load(Ordering::Relaxed));
     println!("answers by number, 0 to 9 and 14: {answers:?}");
     if answers.contains(&0) {
