@@ -40,20 +40,10 @@ module _ (rule x y : ℕ) where
   unfolding wordBy mergeBy
   left-larger e le = rw e (sym (max-eq-left le))
 
--- a rule that is none of 0 to 3 adds
-pub sums : (rule x y : ℕ) → rule ≢ 0 → rule ≢ 1 → rule ≢ 2 → rule ≢ 3 → (x + y) % 4294967296 ≡ wordBy rule x y
+-- a rule above 3 adds
+pub sums : (rule x y : ℕ) → 3 < rule → (x + y) % 4294967296 ≡ wordBy rule x y
 unfolding wordBy
-sums rule x y a b c d = rw (lt-leb rule 3 above, wordBy)
-  where
-    above : 3 < rule
-    above = go rule a b c d
-      where
-        go : (n : ℕ) → n ≢ 0 → n ≢ 1 → n ≢ 2 → n ≢ 3 → 3 < n
-        go zero a b c d = absurd (a refl)
-        go (suc zero) a b c d = absurd (b refl)
-        go (suc (suc zero)) a b c d = absurd (c refl)
-        go (suc (suc (suc zero))) a b c d = absurd (d refl)
-        go (suc (suc (suc (suc n)))) a b c d = omega arith
+sums rule x y above = rw (lt-leb rule 3 above, wordBy)
 
 -- the word is the rule's value where the rule adds nothing, and where its sum fits
 word-kept : (rule x y : ℕ) → rule ≤ 3 → wordBy rule x y ≡ mergeBy rule x y
