@@ -25,7 +25,7 @@ bit-high : (x k j : ℕ) → x < 2 ^ k → k ≤ j → bit x j ≡ 0
 bit-high x k j lt le = let h : x / 2 ^ j ≡ 0 = div-eq-of-lt (omega (arith, pow-mono {i = k} {j = j} le)) in rw h
 
 -- no bit from k to k + d, so below 2 ^ k
-no-high : (d k x : ℕ) → x < 2 ^ (k + d) → ((j : ℕ) → k ≤ j → j < k + d → bit x j ≡ 0) → x < 2 ^ k
+pub no-high : (d k x : ℕ) → x < 2 ^ (k + d) → ((j : ℕ) → k ≤ j → j < k + d → bit x j ≡ 0) → x < 2 ^ k
 no-high zero k x lt f = subst (λ m. x < 2 ^ m) (omega arith) lt
 no-high (suc d) k x lt f = no-high d k x (below-pow x (k + d) top) (λ j le l. f j le (omega arith))
   where

@@ -108,15 +108,23 @@ pub fn mark(x: &mut [u32], count: u32, index: u32)
     x[w] = bits;
 }
 
-// The bits heard, by the ones of the heard words.
+// The bits heard, by the ones of the heard words, two words at a time. Words from count on have none, and once n is count no other has any.
+// That second end, which only the bits decide, also keeps the counting out of wide registers, whose masks would be constant data.
 fn heard_in(x: &[u32]) -> u32
-    requires { ⌜ length (now x) ≡ 130 ⌝ }
+    requires { ⌜ SoundInbox (now x) ⌝ }
     ensures { λ r. ⌜ r ≡ model.heardIn (now (x .entry)) 128 ⌝ }
 {
+    let count = x[1];
+    let most = wide(count);
     let mut n: u32 = 0;
     let mut w: usize = 0;
-    while w < 128 {
-        n = u32::count_ones(x[2 + w]) + n;
+    while 64 * w < most {
+        if n == count {
+            return n;
+        }
+        let low = wide(x[2 + 2 * w]);
+        let high = wide(x[3 + 2 * w]);
+        n = usize::count_ones(low + 4294967296 * high) + n;
         w += 1;
     }
     n
