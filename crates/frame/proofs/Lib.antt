@@ -1,5 +1,6 @@
 pub mod Legality
 pub mod Values
+pub mod Eights
 pub mod Reading
 pub mod Writing
 pub mod Parsing

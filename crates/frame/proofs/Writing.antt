@@ -1,6 +1,6 @@
 -- Digits are written from the low end: before the place reached all is as it was, behind it stand the digits written.
 use mathlib.Core.Path.{_≡_, refl, ap, sym, _∙_}
-use Prim.Native.Nat.{ℕ, zero, suc, _+_, _-_, _/_, _%_, _≤_, _<_}
+use Prim.Native.Nat.{ℕ, zero, suc, _+_, _-_, _*_, _/_, _%_, _≤_, _<_}
 use mathlib.Core.List.{List, [], _∷_, _++_, append-assoc}
 use native.Mathlib.Numerals.{sub-one}
 use native.Mathlib.Omega.{arith}
@@ -8,6 +8,8 @@ use lib.ListN.{length, getD, take, drop, set, length-append, length-drop, drop-o
 use lib.Seq.{take-suc, drop-cons, append-snoc, set-at, take-at, getD-at, length-take-le, take-all, drop-append-add, drop-drop}
 use Rattle.model.specs.Frame.{Frame, digit, digits, line}
 use Rattle.model.proofs.Digits.{length-digits}
+use Rattle.frame.specs.Alternate.{alternate}
+use Rattle.frame.proofs.Values.{digit-sum}
 
 -- of the k digits of x the last k - j are written to out, which was o; y is what is left of x
 pub record Puts (o out : List ℕ) (at k x j y : ℕ) : Type 0 where
@@ -17,7 +19,7 @@ pub record Puts (o out : List ℕ) (at k x j y : ℕ) : Type 0 where
   pub written : out ≡ take (at + j) o ++ (drop j (digits k x) ++ drop (at + k) o)
 
 -- at the start nothing is written
-pub puts-none : (o : List ℕ) (at k x : ℕ) → at + k ≤ length o → Puts o o at k x k x
+puts-none : (o : List ℕ) (at k x : ℕ) → at + k ≤ length o → Puts o o at k x k x
 puts-none o at k x h =
     let l = length-digits k x in
     record {
@@ -55,7 +57,7 @@ put o D Z at i d e h k =
     (set-at (take (at + i) o) (getD o (at + i) 0) (drop (suc i) D ++ Z) (getD D i 0) (at + i) t)
 
 -- one digit more
-pub puts-more : {o out : List ℕ} {at k x y : ℕ} (j : ℕ) → Puts o out at k x j y → 0 < j → Puts o (set out (at + (j - 1)) (digit (y % 16))) at k x (j - 1) (y / 16)
+puts-more : {o out : List ℕ} {at k x y : ℕ} (j : ℕ) → Puts o out at k x j y → 0 < j → Puts o (set out (at + (j - 1)) (digit (y % 16))) at k x (j - 1) (y / 16)
 unfolding digits
 puts-more zero P h = absurd (omega arith)
 puts-more {o} {out} {at} {k} {x} {y} (suc i) P h =
@@ -72,6 +74,53 @@ puts-more {o} {out} {at} {k} {x} {y} (suc i) P h =
 -- at the end all are
 pub puts-all : {o out : List ℕ} {at k x j y : ℕ} → Puts o out at k x j y → j ≡ 0 → out ≡ take at o ++ (digits k x ++ drop (at + k) o)
 puts-all {o} {out} {at} {k} {x} P z = let e : at + 0 ≡ at = omega arith in rw (z, e) at (P .written)
+
+-- what is left of x is `rest`: one half has its digits at even places, the other those at odd places
+pub record Halves (o out : List ℕ) (at k x j low high : ℕ) : Type 0 where
+  pub rest : ℕ
+  pub fits : rest < 4294967296
+  pub puts : Puts o out at k x j rest
+  pub even : low ≡ alternate 4 rest
+  pub odd : high ≡ alternate 4 (rest / 16)
+
+digit-byte : (n : ℕ) → digit (n % 16) < 256
+digit-byte n = omega (arith, digit-sum (n % 16) (omega arith))
+
+pub alternate-fits : (n : ℕ) → alternate 4 n < 4294967296
+unfolding alternate
+alternate-fits n = omega (arith, digit-byte n, digit-byte (n / 256), digit-byte (n / 256 / 256), digit-byte (n / 256 / 256 / 256))
+
+-- a half without its lowest digit, and with a 0 in front
+alternate-next : (n : ℕ) → n < 4294967296 → (alternate 4 n % 256 ≡ digit (n % 16)) × (alternate 4 n / 256 + 805306368 ≡ alternate 4 (n / 16 / 16))
+unfolding alternate digit
+alternate-next n h =
+    let twice : n / 16 / 16 ≡ n / 256 = omega arith in
+    let none : n / 256 / 256 / 256 / 256 ≡ 0 = omega arith in
+    rw (twice, none) (omega (arith, digit-byte n), omega (arith, digit-byte n))
+
+-- at the start, in the two halves of one word
+pub halves-none : {o : List ℕ} {at k x both : ℕ} → at + k ≤ length o → x < 4294967296 → both ≡ alternate 4 x + 4294967296 * alternate 4 (x / 16)
+    → Halves o o at k x k (both % 4294967296) (both / 4294967296)
+halves-none {o} {at} {k} {x} h f e = record {
+  rest = x;
+  fits = f;
+  puts = puts-none o at k x h;
+  even = omega (arith, e, alternate-fits x);
+  odd = omega (arith, e, alternate-fits x);
+}
+
+-- one digit more
+pub halves-more : {o out : List ℕ} {at k x low high : ℕ} (j : ℕ) → Halves o out at k x j low high → 0 < j
+    → Halves o (set out (at + (j - 1)) (low % 256)) at k x (j - 1) high (low / 256 + 805306368)
+halves-more j H h =
+    let next = alternate-next (H .rest) (H .fits) in
+    rw (H .even, next .0, next .1) (record {
+      rest = H .rest / 16;
+      fits = omega (arith, H .fits);
+      puts = puts-more j (H .puts) h;
+      even = H .odd;
+      odd = refl;
+    })
 
 -- x is o with its first m bytes now those of A
 record Filled (o x A : List ℕ) (m : ℕ) : Type 0 where
