@@ -55,9 +55,9 @@ module _ (b : List ℕ) (B : Shaped b) (n y : ℕ) (taken : Bool) (lt : n < room
       go (yes e) = rw (e, word-marked) (others (m % 32) (omega arith))
       go (no e) = rw (getD-set-other b (17 + n / 32) (17 + m / 32) y 0 (omega arith))
 
-  words-marked : (i m : ℕ) → i < width → m ≢ suc n → nodeWord marked i m ≡ nodeWord b i m
-  words-marked i zero l ne = refl
-  words-marked i (suc m) l ne = rw room-marked (getD-set-other b (17 + n / 32) (17 + room b / 32 + width * m + i) y 0 (omega (arith, B .whole)))
+  words-marked : (i m : ℕ) → i < width → nodeWord marked i m ≡ nodeWord b i m
+  words-marked i zero l = refl
+  words-marked i (suc m) l = rw room-marked (getD-set-other b (17 + n / 32) (17 + room b / 32 + width * m + i) y 0 (omega (arith, B .whole)))
 
   bit-marked : Writing b marked (suc n) taken xs 0
   bit-marked = record {
@@ -68,9 +68,13 @@ module _ (b : List ℕ) (B : Shaped b) (n y : ℕ) (taken : Bool) (lt : n < room
     root = λ v l. getD-set-other b (17 + n / 32) (1 + v) y 0 (omega arith);
     occupied = others-marked;
     bit = rw (room-marked, lt-ltb n (room b) lt, word-marked) here;
-    words = words-marked;
+    words = λ i m l _. words-marked i m l;
     here = λ i l. absurd (omega arith);
   }
+
+-- of node n's words the first j are written, and its count is 0, as in every free node
+abbrev pub Uncounted : (b e : List ℕ) (n : ℕ) (taken : Bool) (xs : ℕ → ℕ) (j : ℕ) → Type 0
+Uncounted b e n taken xs j = Writing b e n taken xs j × (nodeWord e 5 n ≡ 0)
 
 -- a node that a make can take
 pub record Unoccupied (b : List ℕ) (n : ℕ) : Type 0 where
@@ -84,13 +88,16 @@ pub take-asks : {b : List ℕ} (n : ℕ) → Unoccupied b n → Shaped b × (1 �
 take-asks zero F = absurd (omega (arith, F .low))
 take-asks {b} (suc n) F = let e : suc n - 1 ≡ n = omega arith in (F .shaped, F .low, F .high, rw e (bit-zero b n (F .high) (F .free)))
 
-pub took : {b e : List ℕ} (n : ℕ) (xs : ℕ → ℕ) → Unoccupied b n → e ≡ set b (17 + (n - 1) / 32) (word b (17 + (n - 1) / 32) + 2 ^ ((n - 1) % 32)) → Writing b e n true xs 0
-took zero xs F q = absurd (omega (arith, F .low))
-took {b} (suc n) xs F q =
+pub took : {b e : List ℕ} (n : ℕ) (xs : ℕ → ℕ) → Unoccupied b n → nodeWord b 5 n ≡ 0 → e ≡ set b (17 + (n - 1) / 32) (word b (17 + (n - 1) / 32) + 2 ^ ((n - 1) % 32)) → Uncounted b e n true xs 0
+took zero xs F z q = absurd (omega (arith, F .low))
+took {b} (suc n) xs F z q =
     let e : suc n - 1 ≡ n = omega arith in
     let x = word b (17 + n / 32) in
     let o = bit-zero b n (F .high) (F .free) in
-    rw (q, e) (bit-marked b (F .shaped) n (x + 2 ^ (n % 32)) true (F .high) (rw (bit-set-same (n % 32) x o)) (λ i ne. bit-set-other (n % 32) i x o ne) xs)
+    let y = x + 2 ^ (n % 32) in
+    let here : eqb (bit y (n % 32)) 1 ≡ true = rw (bit-set-same (n % 32) x o) in
+    let others : (i : ℕ) → i ≢ n % 32 → bit y i ≡ bit x i = λ i ne. bit-set-other (n % 32) i x o ne in
+    rw (q, e) (bit-marked b (F .shaped) n y true (F .high) here others xs, words-marked b (F .shaped) n y true (F .high) here others xs 5 (suc n) (omega arith) ∙ z)
 
 -- and the same of clearing it
 pub free-asks : {b : List ℕ} (n : ℕ) → Shaped b → Occupied (heap b) n → Shaped b × (1 ≤ n) × (n ≤ room b) × (bit (word b (17 + (n - 1) / 32)) ((n - 1) % 32) ≡ 1)
@@ -117,39 +124,61 @@ fields k v l r s t (suc (suc (suc (suc (suc zero))))) = 0
 fields k v l r s t (suc (suc (suc (suc (suc (suc zero)))))) = t % 4294967296
 fields k v l r s t (suc (suc (suc (suc (suc (suc (suc j))))))) = t / 4294967296
 
--- one more word
-step : {b e : List ℕ} (n : ℕ) {j : ℕ} {taken : Bool} {xs : ℕ → ℕ} (x p : ℕ) → Writing b e n taken xs j → j < width → p ≡ nodeAt e n + j → x ≡ xs j → Writing b (set e p x) n taken xs (suc j)
-step zero x p W in-node at is = absurd (omega (arith, W .low))
-step {b} {e} (suc n) {j} {taken} {xs} x p W in-node at is =
-    let q : p ≡ spot e n j = omega arith in
-    rw q (record {
-      shaped = shaped-set e (W .shaped) n j x (W .high) in-node;
-      low = W .low;
-      high = rw (room-set e (W .shaped) n j x (W .high) in-node) (W .high);
-      room-kept = room-set e (W .shaped) n j x (W .high) in-node ∙ W .room-kept;
-      root = λ v l. root-set e (W .shaped) n j x (W .high) in-node v l ∙ W .root v l;
-      occupied = λ m ne. occupied-set e (W .shaped) n j x (W .high) in-node m ∙ W .occupied m ne;
-      bit = occupied-set e (W .shaped) n j x (W .high) in-node (suc n) ∙ W .bit;
-      words = λ i m l ne. node-set-other e (W .shaped) n j x (W .high) in-node i m l ne ∙ W .words i m l ne;
-      here = λ i l. go i l (ℕ-discrete i j);
-    })
+-- one word more of those that are written in their order
+grow : {b e : List ℕ} {n j : ℕ} {taken : Bool} {xs : ℕ → ℕ} → Writing b e n taken xs j → nodeWord e j n ≡ xs j → Writing b e n taken xs (suc j)
+grow {b} {e} {n} {j} {taken} {xs} W is = record { shaped = W .shaped; low = W .low; high = W .high; room-kept = W .room-kept; root = W .root; occupied = W .occupied; bit = W .bit; words = W .words; here = λ i l. go i l (ℕ-discrete i j) }
   where
-    go : (i : ℕ) → i < suc j → Dec (i ≡ j) → nodeWord (set e (spot e n j) x) i (suc n) ≡ xs i
-    go i l (yes d) = rw d (node-set-same e (W .shaped) n j x (W .high) in-node ∙ is)
-    go i l (no d) = node-set-word e (W .shaped) n j x (W .high) in-node i (suc n) (omega arith) d ∙ W .here i (omega arith)
+    go : (i : ℕ) → i < suc j → Dec (i ≡ j) → nodeWord e i n ≡ xs i
+    go i l (yes d) = rw d is
+    go i l (no d) = W .here i (omega arith)
 
-pub wrote : {b e f : List ℕ} (n : ℕ) {taken : Bool} (k v l r s t : ℕ) → Writing b e n taken (fields k v l r s t) 0 → f ≡ written e (nodeAt e n) k v l r s t → Writing b f n taken (fields k v l r s t) width
+-- word i of node n becomes x: its other words stay
+module _ {b e : List ℕ} (n : ℕ) {j : ℕ} {taken : Bool} {xs : ℕ → ℕ} (i x p : ℕ) (W : Writing b e (suc n) taken xs j) (in-node : i < width) (at : p ≡ nodeAt e (suc n) + i) where
+  there : p ≡ spot e n i
+  there = omega arith
+
+  put-here : nodeWord (set e p x) i (suc n) ≡ x
+  put-here = rw there (node-set-same e (W .shaped) n i x (W .high) in-node)
+
+  put-other : (m : ℕ) → m < width → m ≢ i → nodeWord (set e p x) m (suc n) ≡ nodeWord e m (suc n)
+  put-other m l ne = rw there (node-set-word e (W .shaped) n i x (W .high) in-node m (suc n) l ne)
+
+  put : j ≤ i → Writing b (set e p x) (suc n) taken xs j
+  put before = rw there (record {
+    shaped = shaped-set e (W .shaped) n i x (W .high) in-node;
+    low = W .low;
+    high = rw (room-set e (W .shaped) n i x (W .high) in-node) (W .high);
+    room-kept = room-set e (W .shaped) n i x (W .high) in-node ∙ W .room-kept;
+    root = λ v l. root-set e (W .shaped) n i x (W .high) in-node v l ∙ W .root v l;
+    occupied = λ m ne. occupied-set e (W .shaped) n i x (W .high) in-node m ∙ W .occupied m ne;
+    bit = occupied-set e (W .shaped) n i x (W .high) in-node (suc n) ∙ W .bit;
+    words = λ k m l ne. node-set-other e (W .shaped) n i x (W .high) in-node k m l ne ∙ W .words k m l ne;
+    here = λ k l. node-set-word e (W .shaped) n i x (W .high) in-node k (suc n) (omega arith) (omega arith) ∙ W .here k l;
+  })
+
+-- the next word, which is not the count
+step : {b e : List ℕ} (n : ℕ) {j : ℕ} {taken : Bool} {xs : ℕ → ℕ} (x p : ℕ) → Uncounted b e n taken xs j → j < width → j ≢ 5 → p ≡ nodeAt e n + j → x ≡ xs j → Uncounted b (set e p x) n taken xs (suc j)
+step zero x p (W, z) in-node ne at is = absurd (omega (arith, W .low))
+step (suc n) {j} x p (W, z) in-node ne at is =
+    (grow (put n j x p W in-node at (omega arith)) (put-here n j x p W in-node at ∙ is), put-other n j x p W in-node at 5 (omega arith) (λ e. ne (omega (arith, e))) ∙ z)
+
+-- the count alone
+pub uncounted : {b e f : List ℕ} (n : ℕ) {taken : Bool} {xs : ℕ → ℕ} → Writing b e n taken xs 0 → f ≡ set e (nodeAt e n + 5) 0 → Uncounted b f n taken xs 0
+uncounted zero W q = absurd (omega (arith, W .low))
+uncounted {b} {e} (suc n) W q = let p = nodeAt e (suc n) + 5 in rw q (put n 5 0 p W (omega arith) refl (omega arith), put-here n 5 0 p W (omega arith) refl)
+
+pub wrote : {b e f : List ℕ} (n : ℕ) {taken : Bool} (k v l r s t : ℕ) → Uncounted b e n taken (fields k v l r s t) 0 → f ≡ written e (nodeAt e n) k v l r s t → Writing b f n taken (fields k v l r s t) width
 unfolding written
 wrote {b} {e} n k v l r s t W0 q =
     let p = nodeAt e n in
-    let W1 = step n k p W0 (omega arith) (omega arith) refl in
-    let W2 = step n v (p + 1) W1 (omega arith) (omega (arith, W0 .room-kept, W1 .room-kept)) refl in
-    let W3 = step n l (p + 2) W2 (omega arith) (omega (arith, W0 .room-kept, W2 .room-kept)) refl in
-    let W4 = step n r (p + 3) W3 (omega arith) (omega (arith, W0 .room-kept, W3 .room-kept)) refl in
-    let W5 = step n s (p + 4) W4 (omega arith) (omega (arith, W0 .room-kept, W4 .room-kept)) refl in
-    let W6 = step n 0 (p + 5) W5 (omega arith) (omega (arith, W0 .room-kept, W5 .room-kept)) refl in
-    let W7 = step n (t % 4294967296) (p + 6) W6 (omega arith) (omega (arith, W0 .room-kept, W6 .room-kept)) refl in
-    rw q (step n (t / 4294967296) (p + 7) W7 (omega arith) (omega (arith, W0 .room-kept, W7 .room-kept)) refl)
+    let kept = W0 .0 .room-kept in
+    let W1 = step n k p W0 (omega arith) (omega arith) (omega arith) refl in
+    let W2 = step n v (p + 1) W1 (omega arith) (omega arith) (omega (arith, kept, W1 .0 .room-kept)) refl in
+    let W3 = step n l (p + 2) W2 (omega arith) (omega arith) (omega (arith, kept, W2 .0 .room-kept)) refl in
+    let W4 = step n r (p + 3) W3 (omega arith) (omega arith) (omega (arith, kept, W3 .0 .room-kept)) refl in
+    let W5 = step n s (p + 4) W4 (omega arith) (omega arith) (omega (arith, kept, W4 .0 .room-kept)) refl in
+    let W7 = step n (t % 4294967296) (p + 6) (grow (W5 .0) (W5 .1), W5 .1) (omega arith) (omega arith) (omega (arith, kept, W5 .0 .room-kept)) refl in
+    rw q (step n (t / 4294967296) (p + 7) W7 (omega arith) (omega arith) (omega (arith, kept, W7 .0 .room-kept)) refl .0)
 
 pub writing-except : {b e : List ℕ} {n j : ℕ} {taken : Bool} {xs : ℕ → ℕ} → Writing b e n taken xs j → Except (heap b) (heap e) n
 writing-except {b} {e} {n} W = record { room = W .room-kept; root = W .root; occupied = W .occupied; key = words 0 (omega arith); value = words 1 (omega arith); left = words 2 (omega arith); right = words 3 (omega arith); size = words 4 (omega arith); sum = λ m ne. omega (arith, words 6 (omega arith) m ne, words 7 (omega arith) m ne) }

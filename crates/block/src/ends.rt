@@ -27,6 +27,7 @@ pub fn clear(b: &mut [u32], n: u32)
     ensures { λ r. ⌜ Shaped (now (b .exit)) × Emptied (heap (now (b .entry))) (heap (now (b .exit))) n ⌝ }
 {
     free_bit(b, n);
+    set_word(b, 5, n, 0);
     write(b, n, 0, 0, 0, 0, 0, 0);
 }
 

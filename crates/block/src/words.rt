@@ -45,7 +45,8 @@ pub fn free_bit(b: &mut [u32], n: u32)
     b[w] = x - (1 << (i % 32));
 }
 
-// The words of node n; its count is 0, since nothing names it.
+// The words of node n but its count: a free node's is 0, and nothing names a new one.
+// With the count a leaf would have four fixed words in a row, which would be copied from constant data.
 pub fn write(
     b: &mut [u32],
     n: u32,
@@ -65,7 +66,6 @@ pub fn write(
     b[k + 2] = left;
     b[k + 3] = right;
     b[k + 4] = size;
-    b[k + 5] = 0;
     b[k + 6] = (sum % 4294967296) as u32;
     b[k + 7] = (sum / 4294967296) as u32;
 }

@@ -5,10 +5,9 @@ use mathlib.Core.Bool.{true}
 use Prim.Native.Nat.{ℕ, _+_}
 use Rattle.model.specs.Block.{heap, room, occupiedAt}
 use Rattle.model.specs.Heap.{sizeAt, sumAt}
-use Rattle.model.specs.Moves.{Writing}
 use Rattle.model.proofs.Growing.{came-full}
 use Rattle.block.proofs.Free.{found-none}
-use Rattle.block.proofs.Writes.{fields, take-asks, took, wrote}
+use Rattle.block.proofs.Writes.{Uncounted, fields, take-asks, took, wrote}
 use Rattle.block.proofs.Makes.{Lowest, lowest-found, Making, left-asks, right-asks, makes}
 use borrow.Author.Needs.{needs}
 use Rattle.block.proofs.make.Statement.{statement}
@@ -27,9 +26,12 @@ taken-at c = c .before .before .before .before
 found : (c : tie.Else1) → Lowest (entry c .args .b .now) (c .before .lowest-free .result)
 found c = lowest-found (entry c .pre .0 .running .shaped) (c .before .lowest-free .ensures) (c .if1 .left)
 
--- its bit is set
-taken : (c : tie.After-take-bit) (xs : ℕ → ℕ) → Writing (entry (found-at c) .args .b .now) (c .take-bit .last .0) (found-at c .before .lowest-free .result) true xs 0
-taken c xs = took (found-at c .before .lowest-free .result) xs (found (found-at c) .node) (c .take-bit .ensures)
+-- its bit is set, and its count is still that of a free node
+taken : (c : tie.After-take-bit) (xs : ℕ → ℕ) → Uncounted (entry (found-at c) .args .b .now) (c .take-bit .last .0) (found-at c .before .lowest-free .result) true xs 0
+taken c xs =
+    let F = found (found-at c) .node in
+    let blank = entry (found-at c) .pre .0 .running .linked .blank _ (F .low) (F .high) (F .free) in
+    took (found-at c .before .lowest-free .result) xs F (blank .count) (c .take-bit .ensures)
 
 -- its words are written
 making : (c : tie.After-write) → let at = found-at (taken-at c) in let a = entry at .args in Making (a .b .now) (c .write .last .0) (at .before .lowest-free .result) (a .key) (a .value) (a .left) (a .right)
@@ -94,7 +96,7 @@ take-bit-requires : tie.Need-take-bit-requires
 take-bit-requires c κs = let at = c .before .before .before .before .before .before .before .before .before .before in take-asks (at .before .lowest-free .result) (found at .node)
 
 write-requires : tie.Need-write-requires
-write-requires c κs = let bit = taken (c .before .before .before) (λ x. x) in (bit .shaped, bit .low, bit .high)
+write-requires c κs = let bit = taken (c .before .before .before) (λ x. x) .0 in (bit .shaped, bit .low, bit .high)
 
 raise-requires : tie.Need-raise-requires
 raise-requires c κs = left-asks (making (c .before .before .before))
