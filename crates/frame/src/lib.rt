@@ -35,7 +35,7 @@ fn wide(x: u32) -> u64
 }
 
 // Eight digits at once, a byte each: those at even places in the low half, those at odd places in the high half, the lowest first.
-// A digit n is 48 + n, and 39 more where n + 6 carries out of its four bits: arithmetic alone, in which nothing is looked up.
+// A digit n is 48 + n, and 39 more where n + 6 carries out of its four bits, so from 10 on. Nothing is looked up.
 fn eight_digits(x: u32) -> u64
     ensures { λ r. ⌜ r ≡ alternate 4 x + 4294967296 * alternate 4 (x / 16) ⌝ }
 {
@@ -63,7 +63,7 @@ fn digit_value(c: u8) -> Number
     Number::None
 }
 
-// k digits of x from `at` on, the high digit first; written from the low one, from the two halves in turn. Behind the eight digits come 0s.
+// k digits of x from `at` on, the high digit first; written from the low one, from the two halves in turn. Above the eight digits stand 0s.
 pub fn put_hex(out: &mut [u8], at: usize, k: usize, x: u32)
     requires { ⌜ at + k ≤ length (now out) ⌝ }
     ensures { λ _. ⌜ now (out .exit) ≡ take at (now (out .entry)) ++ (model.digits k x ++ drop (at + k) (now (out .entry))) ⌝ }
