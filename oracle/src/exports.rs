@@ -1,4 +1,5 @@
-//! The exported calls. A slice crosses as pointer and length, a field as a pointer.
+//! The exported calls. A slice crosses as pointer and length, a field as a pointer. The declarations that are `pub` are what
+//! the comparison of minutes held calls in its own way.
 
 use crate::call::{Call, Reply};
 use crate::frame::Frame;
@@ -8,10 +9,10 @@ use std::sync::atomic::{AtomicU64, Ordering};
 extern "C" {
     fn ksk_fresh(block: *mut u32, words: usize, n: u32) -> u32;
     fn ksk_lookup(block: *const u32, words: usize, version: u32, key: u32, found: *mut u32, value: *mut u32) -> u32;
-    fn ksk_size(block: *const u32, words: usize, version: u32, size: *mut u32) -> u32;
-    fn ksk_held(block: *const u32, words: usize, version: u32, minutes: *mut u64) -> u32;
-    fn ksk_held_between(block: *const u32, words: usize, version: u32, first: u32, last: u32, minutes: *mut u64) -> u32;
-    fn ksk_insert(
+    pub fn ksk_size(block: *const u32, words: usize, version: u32, size: *mut u32) -> u32;
+    pub fn ksk_held(block: *const u32, words: usize, version: u32, minutes: *mut u64) -> u32;
+    pub fn ksk_held_between(block: *const u32, words: usize, version: u32, first: u32, last: u32, minutes: *mut u64) -> u32;
+    pub fn ksk_insert(
         block: *mut u32,
         words: usize,
         dest: u32,
@@ -21,12 +22,12 @@ extern "C" {
         had: *mut u32,
         old: *mut u32,
     ) -> u32;
-    fn ksk_remove(block: *mut u32, words: usize, dest: u32, source: u32, key: u32, had: *mut u32, old: *mut u32) -> u32;
-    fn ksk_copy(block: *mut u32, words: usize, dest: u32, source: u32) -> u32;
-    fn ksk_clear(block: *mut u32, words: usize, version: u32) -> u32;
-    fn ksk_union(block: *mut u32, words: usize, dest: u32, left: u32, right: u32, rule: u32) -> u32;
-    fn ksk_difference(block: *mut u32, words: usize, dest: u32, left: u32, right: u32, rule: u32, cancel: u32) -> u32;
-    fn ksk_list(
+    pub fn ksk_remove(block: *mut u32, words: usize, dest: u32, source: u32, key: u32, had: *mut u32, old: *mut u32) -> u32;
+    pub fn ksk_copy(block: *mut u32, words: usize, dest: u32, source: u32) -> u32;
+    pub fn ksk_clear(block: *mut u32, words: usize, version: u32) -> u32;
+    pub fn ksk_union(block: *mut u32, words: usize, dest: u32, left: u32, right: u32, rule: u32) -> u32;
+    pub fn ksk_difference(block: *mut u32, words: usize, dest: u32, left: u32, right: u32, rule: u32, cancel: u32) -> u32;
+    pub fn ksk_list(
         block: *const u32,
         words: usize,
         left: u32,

@@ -1,36 +1,8 @@
 //! The calls of this part. Blocks are given to change even where they are lent read only, so that a change would be seen.
 
-extern "C" {
-    fn ksk_held(block: *const u32, words: usize, version: u32, minutes: *mut u64) -> u32;
-    fn ksk_held_between(block: *const u32, words: usize, version: u32, first: u32, last: u32, minutes: *mut u64) -> u32;
-    fn ksk_size(block: *const u32, words: usize, version: u32, size: *mut u32) -> u32;
-    fn ksk_insert(
-        block: *mut u32,
-        words: usize,
-        dest: u32,
-        source: u32,
-        key: u32,
-        value: u32,
-        had: *mut u32,
-        old: *mut u32,
-    ) -> u32;
-    fn ksk_remove(block: *mut u32, words: usize, dest: u32, source: u32, key: u32, had: *mut u32, old: *mut u32) -> u32;
-    fn ksk_copy(block: *mut u32, words: usize, dest: u32, source: u32) -> u32;
-    fn ksk_clear(block: *mut u32, words: usize, version: u32) -> u32;
-    fn ksk_union(block: *mut u32, words: usize, dest: u32, left: u32, right: u32, rule: u32) -> u32;
-    fn ksk_difference(block: *mut u32, words: usize, dest: u32, left: u32, right: u32, rule: u32, cancel: u32) -> u32;
-    fn ksk_list(
-        block: *const u32,
-        words: usize,
-        left: u32,
-        right: u32,
-        start: u32,
-        out: *mut u32,
-        room: usize,
-        written: *mut u32,
-        total: *mut u32,
-    ) -> u32;
-}
+use crate::exports::{
+    ksk_clear, ksk_copy, ksk_difference, ksk_held, ksk_held_between, ksk_insert, ksk_list, ksk_remove, ksk_size, ksk_union,
+};
 
 /// What stands in a field before a call.
 const MARK: u64 = 0xdead_beef_0bad_cafe;
