@@ -30,14 +30,30 @@ static void reserve(uint32_t *block, uint32_t version, uint32_t call, uint32_t m
 static void send(uint32_t from, uint32_t to, uint32_t batch, uint32_t version)
 {
     uint8_t lines[LINES * KSK_LINE_BYTES];
-    uint32_t written, total, again, missing = KSK_UNKNOWN;
+    uint32_t written, total, again, place, missing = KSK_UNKNOWN;
 
     expect_done("ksk_frames", ksk_frames(primary, KSK_BLOCK_WORDS(N), from, to, batch, 0, lines, sizeof lines, &written, &total));
     expect_done("ksk_begin", ksk_begin(inbox, KSK_INBOX_WORDS, batch));
     for (uint32_t round = 0; round < 2; round++)
         for (uint32_t i = round; i < total; i += 2)
-            expect_done("ksk_receive", ksk_receive(standby, KSK_BLOCK_WORDS(N), inbox, KSK_INBOX_WORDS, version, lines + i * KSK_LINE_BYTES, KSK_LINE_BYTES, &again, &missing));
+            expect_done("ksk_receive", ksk_receive(standby, KSK_BLOCK_WORDS(N), inbox, KSK_INBOX_WORDS, version, lines + i * KSK_LINE_BYTES, KSK_LINE_BYTES, &again, &missing, &place));
     printf("lines sent: %u, missing: %u\n", total, missing);
+}
+
+/* Two lines that are damaged on the way: one in a digit, which the standby is sent, one in its kind, which is only read. */
+static void damage(void)
+{
+    uint8_t lines[LINES * KSK_LINE_BYTES];
+    uint32_t written, total, again, missing, place, field[6];
+
+    expect_done("ksk_frames", ksk_frames(primary, KSK_BLOCK_WORDS(N), 0, 1, 7, 0, lines, sizeof lines, &written, &total));
+    expect_done("ksk_begin", ksk_begin(inbox, KSK_INBOX_WORDS, 7));
+    lines[20] = 'x';
+    if (ksk_receive(standby, KSK_BLOCK_WORDS(N), inbox, KSK_INBOX_WORDS, 0, lines, KSK_LINE_BYTES, &again, &missing, &place) == KSK_DIGIT)
+        printf("a damaged line: bad digit at place %u\n", place);
+    lines[KSK_LINE_BYTES + 16] = '1';
+    if (ksk_parse(lines + KSK_LINE_BYTES, KSK_LINE_BYTES, field, field + 1, field + 2, field + 3, field + 4, field + 5, &place) == KSK_KIND)
+        printf("a damaged line: kind above 2\n");
 }
 
 /* Prints a version: its listing against version 15, which stays empty. */
@@ -115,6 +131,7 @@ int main(void)
     reserve(primary, 1, 4, 40);
     send(0, 1, 7, 0);
     print(standby, 0);
+    damage();
     accounts();
     return 0;
 }

@@ -2,7 +2,7 @@
 
 mod ksk;
 
-use ksk::{Block, Inbox, Ledger, Refusal};
+use ksk::{Block, Frame, Inbox, Ledger, Refusal};
 use std::error::Error;
 
 /// The version that the ledger is over: it holds the open calls.
@@ -25,6 +25,7 @@ fn main() -> Result<(), Box<dyn Error>> {
     primary.insert(1, 1, 4, 40)?;
     send(&primary, 0, 1, 7, &mut standby, 0)?;
     print(&standby, 0)?;
+    damage(&primary, &mut standby)?;
     accounts(&mut primary, &mut standby)?;
     Ok(())
 }
@@ -37,6 +38,21 @@ fn send(primary: &Block, from: u32, to: u32, batch: u32, standby: &mut Block, ve
         standby.receive(&mut inbox, version, line)?;
     }
     println!("lines sent: {}, missing: {}", lines.len(), inbox.missing()?.unwrap_or(u32::MAX));
+    Ok(())
+}
+
+/// Two lines that are damaged on the way: one in a digit, which the standby is sent, one in its kind, which is only read.
+fn damage(primary: &Block, standby: &mut Block) -> Result<(), Refusal> {
+    let line = primary.frames(0, 1, 7)?[0];
+    let (mut digit, mut kind) = (line, line);
+    digit[20] = b'x';
+    kind[16] = b'1';
+    if let Err(Refusal::Digit(place)) = standby.receive(&mut Inbox::begin(7), 0, &digit) {
+        println!("a damaged line: bad digit at place {place}");
+    }
+    if Frame::parse(&kind) == Err(Refusal::Kind) {
+        println!("a damaged line: kind above 2");
+    }
     Ok(())
 }
 

@@ -19,8 +19,9 @@ extern "C" {
     fn ksk_difference(block: *mut u32, words: usize, dest: c_uint, left: c_uint, right: c_uint, rule: c_uint, cancel: c_uint) -> c_uint;
     fn ksk_list(block: *const u32, words: usize, left: c_uint, right: c_uint, start: c_uint, out: *mut u32, out_words: usize, written: *mut u32, total: *mut u32) -> c_uint;
     fn ksk_frames(block: *const u32, words: usize, from: c_uint, to: c_uint, batch: c_uint, start: c_uint, out: *mut u8, out_bytes: usize, written: *mut u32, total: *mut u32) -> c_uint;
+    fn ksk_parse(line: *const u8, bytes: usize, batch: *mut u32, index: *mut u32, count: *mut u32, kind: *mut u32, key: *mut u32, value: *mut u32, place: *mut u32) -> c_uint;
     fn ksk_begin(inbox: *mut u32, words: usize, batch: c_uint) -> c_uint;
-    fn ksk_receive(block: *mut u32, words: usize, inbox: *mut u32, inbox_words: usize, version: c_uint, line: *const u8, bytes: usize, again: *mut u32, missing: *mut u32) -> c_uint;
+    fn ksk_receive(block: *mut u32, words: usize, inbox: *mut u32, inbox_words: usize, version: c_uint, line: *const u8, bytes: usize, again: *mut u32, missing: *mut u32, place: *mut u32) -> c_uint;
     fn ksk_missing(inbox: *const u32, words: usize, missing: *mut u32) -> c_uint;
     fn ksk_ledger_fresh(ledger: *mut u64, words: usize, accounts: c_uint) -> c_uint;
     fn ksk_ledger_top_up(ledger: *mut u64, words: usize, account: c_uint, minutes: u64) -> c_uint;
@@ -42,6 +43,10 @@ pub enum Refusal {
     Frame,
     Batch,
     Count,
+    /// A line's first bad digit stands at this place, 0 to 33.
+    Digit(u32),
+    Kind,
+    Range,
     Sum,
 }
 
@@ -87,7 +92,8 @@ pub struct Heard {
     pub missing: u32,
 }
 
-fn done(number: u32) -> Result<(), Refusal> {
+/// The place is that of a line's bad digit; calls that read no line have none.
+fn heard(number: u32, place: u32) -> Result<(), Refusal> {
     Err(match number {
         0 => return Ok(()),
         1 => Refusal::Shape,
@@ -99,9 +105,16 @@ fn done(number: u32) -> Result<(), Refusal> {
         7 => Refusal::Frame,
         8 => Refusal::Batch,
         9 => Refusal::Count,
+        10 => Refusal::Digit(place),
+        11 => Refusal::Kind,
+        12 => Refusal::Range,
         14 => Refusal::Sum,
-        other => unreachable!("the table gives numbers 0 to 9 and 14, not {other}"),
+        other => unreachable!("the table gives numbers 0 to 12 and 14, not {other}"),
     })
+}
+
+fn done(number: u32) -> Result<(), Refusal> {
+    heard(number, 0)
 }
 
 fn found(had: u32, value: u32) -> Option<u32> {
@@ -197,11 +210,35 @@ impl Block {
 
     /// Hears one line in `version`.
     pub fn receive(&mut self, inbox: &mut Inbox, version: u32, line: &[u8]) -> Result<Heard, Refusal> {
-        let (mut again, mut missing) = (0, 0);
-        done(unsafe {
-            ksk_receive(self.words.as_mut_ptr(), self.words.len(), inbox.words.as_mut_ptr(), inbox.words.len(), version, line.as_ptr(), line.len(), &mut again, &mut missing)
-        })?;
+        let (mut again, mut missing, mut place) = (0, 0, 0);
+        let (block, words) = (self.words.as_mut_ptr(), self.words.len());
+        let number = unsafe {
+            ksk_receive(block, words, inbox.words.as_mut_ptr(), inbox.words.len(), version, line.as_ptr(), line.len(), &mut again, &mut missing, &mut place)
+        };
+        heard(number, place)?;
         Ok(Heard { again: again == 1, missing })
+    }
+}
+
+/// The fields of a line.
+#[derive(Clone, Copy, Debug, PartialEq, Eq, Default)]
+pub struct Frame {
+    pub batch: u32,
+    pub index: u32,
+    pub count: u32,
+    pub kind: u32,
+    pub key: u32,
+    pub value: u32,
+}
+
+impl Frame {
+    /// Reads one line on its own, or says what is wrong with it.
+    pub fn parse(line: &[u8]) -> Result<Frame, Refusal> {
+        let (mut f, mut place) = (Frame::default(), 0);
+        let Frame { batch, index, count, kind, key, value } = &mut f;
+        let number = unsafe { ksk_parse(line.as_ptr(), line.len(), batch, index, count, kind, key, value, &mut place) };
+        heard(number, place)?;
+        Ok(f)
     }
 }
 

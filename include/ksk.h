@@ -1,10 +1,11 @@
 /* The reservation table: call numbers to minutes, sixteen versions in one lent block of 32-bit words.
  *
  * Every call answers a number, 0 for done. A refusal leaves every lent word and byte as it was, and sets every field
- * behind a pointer to 0; the one exception is a ledger's `table`, which holds the table's number beside KSK_LOOKUP and
- * KSK_EDIT_REFUSED. A slice is a pointer and a length, in words or in bytes; a slice of length 0 may have any
- * pointer that is not NULL. Pointers are aligned for what they point to, and no two slices or pointers of one call may
- * overlap. While a call runs no other thread may use what it is lent, and its thread must have KSK_STACK_BYTES of stack.
+ * behind a pointer to 0; the exceptions are a line's `place`, which holds the place of the bad digit beside KSK_DIGIT,
+ * and a ledger's `table`, which holds the table's number beside KSK_LOOKUP and KSK_EDIT_REFUSED. A slice is a pointer
+ * and a length, in words or in bytes; a slice of length 0 may have any pointer that is not NULL. Pointers are aligned
+ * for what they point to, and no two slices or pointers of one call may overlap. While a call runs no other thread may
+ * use what it is lent, and its thread must have KSK_STACK_BYTES of stack.
  */
 #ifndef KSK_H
 #define KSK_H
@@ -16,7 +17,7 @@
 extern "C" {
 #endif
 
-/* Numbers a call gives back, in the order in which they are checked: 1, 2, 3, 4, 14, 7, 8, 9, 6, 5. */
+/* Numbers a call gives back, in the order in which they are checked: 1, 2, 3, 4, 14, 7, 10, 11, 12, 8, 9, 6, 5. */
 #define KSK_DONE     0u
 #define KSK_SHAPE    1u /* block length or N is wrong, or inbox not 130 words */
 #define KSK_DAMAGED  2u /* block not sound, or inbox not sound */
@@ -24,9 +25,12 @@ extern "C" {
 #define KSK_RULE     4u /* unknown rule, or cancelling with difference rule 2 */
 #define KSK_NO_ROOM  5u /* a node was to be made and none was free; 3 free nodes for each level of the tree and one more are enough for insert and remove */
 #define KSK_TOO_DEEP 6u /* a listing walk has more than 64 pending items on one side */
-#define KSK_FRAME    7u /* line malformed */
+#define KSK_FRAME    7u /* a line is not 35 bytes or has no closing newline */
 #define KSK_BATCH    8u /* another batch number */
 #define KSK_COUNT    9u /* inbox count not zero and unlike the frame's */
+#define KSK_DIGIT    10u /* a byte of a line's 34 is no lower-case hexadecimal digit; place is that of the first, 0 to 33 */
+#define KSK_KIND     11u /* a line's kind is above 2 */
+#define KSK_RANGE    12u /* any other field rule of a line is broken: docs/LINES.md */
 #define KSK_SUM      14u /* union rule 4: the sum of a common key is above 4,294,967,295 */
 
 /* Numbers of the ledger, in the order in which they are checked. */
@@ -94,14 +98,15 @@ uint32_t ksk_list(const uint32_t *block, size_t words, uint32_t left, uint32_t r
 /* The lines that carry version from to version to, under a batch number: lines from index start on while 35 bytes remain. written counts bytes. */
 uint32_t ksk_frames(const uint32_t *block, size_t words, uint32_t from, uint32_t to, uint32_t batch, uint32_t start, uint8_t *out, size_t out_bytes, uint32_t *written, uint32_t *total);
 
-/* Reads one line: 35 bytes, the newline included. */
-uint32_t ksk_parse(const uint8_t *line, size_t bytes, uint32_t *batch, uint32_t *index, uint32_t *count, uint32_t *kind, uint32_t *key, uint32_t *value);
+/* Reads one line: 35 bytes, the newline included. place is that of the first bad digit beside KSK_DIGIT, else 0. */
+uint32_t ksk_parse(const uint8_t *line, size_t bytes, uint32_t *batch, uint32_t *index, uint32_t *count, uint32_t *kind, uint32_t *key, uint32_t *value, uint32_t *place);
 
 /* Makes the inbox ready for a batch: nothing heard. */
 uint32_t ksk_begin(uint32_t *inbox, size_t words, uint32_t batch);
 
-/* Hears one line: does its edit in the version and marks its index. repeat is 1 for an index heard before; missing is how many are still to come, 0 when complete. */
-uint32_t ksk_receive(uint32_t *block, size_t words, uint32_t *inbox, size_t inbox_words, uint32_t version, const uint8_t *line, size_t bytes, uint32_t *repeat, uint32_t *missing);
+/* Hears one line: does its edit in the version and marks its index. repeat is 1 for an index heard before; missing is how many are still to come, 0 when complete;
+ * place is that of the line's first bad digit beside KSK_DIGIT, else 0. */
+uint32_t ksk_receive(uint32_t *block, size_t words, uint32_t *inbox, size_t inbox_words, uint32_t version, const uint8_t *line, size_t bytes, uint32_t *repeat, uint32_t *missing, uint32_t *place);
 
 /* How many lines are missing; KSK_UNKNOWN while no line has been accepted. */
 uint32_t ksk_missing(const uint32_t *inbox, size_t words, uint32_t *missing);

@@ -277,6 +277,10 @@ fn said(line: &[u8]) {
     let a = parse(line);
     text(b" ");
     io::print_decimal(1, a.number as u64);
+    if a.number == 10 {
+        text(b" at ");
+        io::print_decimal(1, a.place as u64);
+    }
 }
 
 fn digits() {
@@ -287,12 +291,32 @@ fn digits() {
     text(b"\n");
 }
 
+// The examples of docs/LINES.md, in its order.
+fn faults() {
+    text(b"lines:");
+    said(b"00000007000000010100000003000001f\n");
+    said(b"000000070000000101000000030000001f\r\n");
+    said(b"000000070000000101000000030000001f");
+    said(b"000000070000000101000000030000001F\n");
+    said(b"00000007000o0001010000000300000o1f\n");
+    said(b"000000070000000103000000030000001f\n");
+    said(b"000000070001000101000000030000001f\n");
+    said(b"000000070000000001000000030000001f\n");
+    said(b"000000070000100101000000030000001f\n");
+    said(b"000000070000000102000000030000001f\n");
+    said(b"0000000700000001000000000300000000\n");
+    said(b"00000007000000000300000003000000XX\n");
+    said(b"000000070000000003000000030000001f\n");
+    text(b"\n");
+}
+
 fn main() {
     deepest();
     exact_room();
     known_versions();
     largest();
     digits();
+    faults();
     known_rules();
     full_chain();
     half_chain();

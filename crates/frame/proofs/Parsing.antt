@@ -1,19 +1,38 @@
--- A line is parsed by its length and newline, then its fields in order, then the frame's rules; the first that fails makes it none.
-use mathlib.Core.Path.{_≡_, ap, sym, _∙_}
-use mathlib.Core.Logic.{_≢_}
+-- A line's fields are read in order, and the first that is no number makes the whole none.
+use mathlib.Core.Path.{_≡_, refl, ap, sym, _∙_}
+use mathlib.Core.Logic.{_⊎_, inl, inr}
 use Prim.Native.Nat.{ℕ}
-use mathlib.Core.Bool.{true, false}
 use mathlib.Core.Option.{Option, none, some}
 use mathlib.Core.List.{List}
-use lib.ListN.{length, getD}
-use borrow.Author.Tests.{eq-eqb, ne-eqb}
-use Rattle.model.specs.Frame.{Frame, _>>=_, field, fields, legal, parse}
+use native.Mathlib.Omega.{arith}
+use Rattle.model.specs.Frame.{Frame, field, fields, good, fault, firstBad, read}
+use Rattle.model.specs.Numbers.{DIGIT}
+use Rattle.model.proofs.Lines.{Closed, read-digit}
 use Rattle.frame.specs.declared.Number.{Number}
-use Rattle.frame.specs.Fields.{said}
+use Rattle.frame.specs.Fields.{said, fieldRead, fieldsRead}
 
 -- what an answer that is x says
-pub says : {r x : Number} {o : Option ℕ} → said r ≡ o → r ≡ x → said x ≡ o
+pub says : {r x : Number} {o : ℕ ⊎ ℕ} → said r ≡ o → r ≡ x → said x ≡ o
 says e g = ap said (sym g) ∙ e
+
+-- a field's number; where it has none, so has the whole, and the place is the first bad one
+pub field-is : (cs : List ℕ) (at k : ℕ) {n : ℕ} → inl n ≡ fieldRead cs at k → some n ≡ field cs at k
+unfolding fieldRead
+field-is cs at k {n} e = go (field cs at k) refl
+  where
+    go : (o : Option ℕ) → field cs at k ≡ o → some n ≡ o
+    go none q = let z : _≡_ {A = ℕ} 0 1 = cc (rw (q, fieldRead) at e) in absurd (omega arith)
+    go (some m) q = ap some (cc (rw (q, fieldRead) at e))
+
+pub field-not : (cs : List ℕ) (at k : ℕ) {p : ℕ} → inr p ≡ fieldRead cs at k → (none ≡ field cs at k → none ≡ fields cs) → fault DIGIT p ≡ fieldsRead cs
+unfolding fieldRead fieldsRead
+field-not cs at k {p} e no-fields = go (field cs at k) refl
+  where
+    go : (o : Option ℕ) → field cs at k ≡ o → fault DIGIT p ≡ fieldsRead cs
+    go none q =
+        let first : p ≡ firstBad cs = cc (rw (q, fieldRead) at e) in
+        rw (sym (no-fields (sym q)), fieldsRead) (ap (fault DIGIT) first)
+    go (some m) q = let z : _≡_ {A = ℕ} 0 1 = cc (rw (q, fieldRead) at e) in absurd (omega arith)
 
 -- the fields as they are read
 module _ (cs : List ℕ) where
@@ -51,25 +70,25 @@ module _ (cs : List ℕ) where
             unfolding fields
             all-read e = rw (sym a, fields) (rw (sym b) (rw (sym c) (rw (sym d) (rw (sym g) (rw (sym e))))))
 
+-- the fields as the code answers them
+pub all-said : (cs : List ℕ) {f : Frame} → some f ≡ fields cs → good f ≡ fieldsRead cs
+unfolding fieldsRead
+all-said cs e = rw (sym e, fieldsRead)
+
+-- what that answer says of the line
 module _ (cs : List ℕ) where
-  pub bad-length : length cs ≢ 35 → none ≡ parse cs
-  unfolding parse
-  bad-length ne = rw (ne-eqb (length cs) 35 ne, parse)
+  pub fields-are : {f : Frame} → good f ≡ fieldsRead cs → fields cs ≡ some f
+  unfolding fieldsRead
+  fields-are {f} e = go (fields cs) refl
+    where
+      go : (o : Option Frame) → fields cs ≡ o → o ≡ some f
+      go none q = let z : _≡_ {A = ℕ} 0 1 = cc (rw (q, fieldsRead) at e) in absurd (omega arith)
+      go (some g) q = ap some (sym (cc (rw (q, fieldsRead) at e)))
 
-  module _ (long : length cs ≡ 35) where
-    pub no-newline : getD cs 34 0 ≢ 10 → none ≡ parse cs
-    unfolding parse
-    no-newline ne = rw (eq-eqb (length cs) 35 long, ne-eqb (getD cs 34 0) 10 ne, parse)
-
-    module _ (newline : getD cs 34 0 ≡ 10) where
-      pub no-fields : none ≡ fields cs → none ≡ parse cs
-      unfolding parse
-      no-fields e = rw (eq-eqb (length cs) 35 long, eq-eqb (getD cs 34 0) 10 newline, parse) (rw (sym e))
-
-      pub no-frame : {f : Frame} → some f ≡ fields cs → legal f ≡ false → none ≡ parse cs
-      unfolding parse
-      no-frame e l = rw (eq-eqb (length cs) 35 long, eq-eqb (getD cs 34 0) 10 newline, parse) (rw (sym e) (rw (l, _>>=_)))
-
-      pub whole : {f : Frame} → some f ≡ fields cs → legal f ≡ true → some f ≡ parse cs
-      unfolding parse
-      whole e l = rw (eq-eqb (length cs) 35 long, eq-eqb (getD cs 34 0) 10 newline, parse) (rw (sym e) (rw (l, _>>=_)))
+  pub no-fields : {n p : ℕ} → Closed cs → fault n p ≡ fieldsRead cs → fault n p ≡ read cs
+  unfolding fieldsRead
+  no-fields {n} {p} C e = go (fields cs) refl
+    where
+      go : (o : Option Frame) → fields cs ≡ o → fault n p ≡ read cs
+      go none q = rw (q, fieldsRead) at e ∙ sym (read-digit cs C q)
+      go (some g) q = let z : _≡_ {A = ℕ} 0 1 = cc (rw (q, fieldsRead) at e) in absurd (omega arith)

@@ -1,25 +1,33 @@
 -- Digits are read one after another: those that are left, behind the number so far, say what all of them say.
-use mathlib.Core.Path.{_≡_, refl, sym}
+use mathlib.Core.Path.{_≡_, refl, ap, sym, _∙_}
+use mathlib.Core.Logic.{inl, inr}
 use Prim.Native.Nat.{ℕ, _+_, _*_, _^_, _≤_, _<_}
-use mathlib.Core.Option.{none, some}
+use mathlib.Core.Option.{Option, none, some}
 use mathlib.Core.List.{List, [], _∷_}
 use native.Mathlib.Numerals.{add-one}
 use native.Mathlib.Nat.{pow-suc, pow-le-pow-right}
 use native.Mathlib.Omega.{arith}
 use lib.ListN.{length, getD, take, drop, length-drop, drop-of-length-le}
 use lib.Seq.{drop-cons, length-take-le, getD-take, getD-drop}
-use Rattle.model.specs.Frame.{value, number, field}
-use Rattle.model.proofs.Digits.{digit-value}
+use Rattle.model.specs.Frame.{value, number, field, firstBad}
+use Rattle.model.proofs.Digits.{digit-value, first-bad, first-more}
+use Rattle.frame.specs.declared.Digit.{Digit}
+use Rattle.frame.specs.Fields.{digitOf, fieldRead}
+
+-- what an answer that is x says
+pub digit-says : {r x : Digit} {o : Option ℕ} → digitOf r ≡ o → r ≡ x → digitOf x ≡ o
+digit-says e g = ap digitOf (sym g) ∙ e
 
 -- j of the k digits from `at` on are read, and gave n
 pub record Reads (cs : List ℕ) (at k n j : ℕ) : Type 0 where
   pub within : j ≤ k
   pub small : n < 16 ^ j
+  pub good : at + j ≤ firstBad cs
   pub rest : number n (drop j (take k (drop at cs))) ≡ field cs at k
 
 -- none yet
-pub reads-none : (cs : List ℕ) (at k : ℕ) → Reads cs at k 0 0
-reads-none cs at k = record { within = omega arith; small = omega arith; rest = refl }
+pub reads-none : (cs : List ℕ) (at k : ℕ) → at ≤ firstBad cs → Reads cs at k 0 0
+reads-none cs at k before = record { within = omega arith; small = omega arith; good = omega (arith, before); rest = refl }
 
 module _ {cs : List ℕ} {at k n j : ℕ} (R : Reads cs at k n j) (inside : at + k ≤ length cs) where
   long : length (take k (drop at cs)) ≡ k
@@ -28,10 +36,12 @@ module _ {cs : List ℕ} {at k n j : ℕ} (R : Reads cs at k n j) (inside : at +
   next : j < k → drop j (take k (drop at cs)) ≡ getD cs (at + j) 0 ∷ drop (j + 1) (take k (drop at cs))
   next h = rw (add-one, drop-cons (take k (drop at cs)) j 0 (omega (arith, long)), getD-take k (drop at cs) j 0 h, getD-drop at cs j 0)
 
-  -- a byte that is no digit makes the whole none
-  pub reads-bad : j < k → none ≡ value (getD cs (at + j) 0) → none ≡ field cs at k
-  unfolding number
-  reads-bad h e = rw (sym e, number) at (rw (next h) at (R .rest))
+  -- a byte that is no digit makes the whole none, and is the line's first
+  pub reads-bad : j < k → none ≡ value (getD cs (at + j) 0) → inr (at + j) ≡ fieldRead cs at k
+  unfolding number fieldRead
+  reads-bad h e =
+      let z : none ≡ field cs at k = rw (sym e, number) at (rw (next h) at (R .rest)) in
+      rw (sym z, fieldRead) (ap inr (first-bad cs (at + j) (R .good) (sym e)))
 
   -- a digit is taken in
   pub reads-more : (d : ℕ) → j < k → some d ≡ value (getD cs (at + j) 0) → Reads cs at k (n * 16 + d) (j + 1)
@@ -39,6 +49,7 @@ module _ {cs : List ℕ} {at k n j : ℕ} (R : Reads cs at k n j) (inside : at +
   reads-more d h e = record {
     within = omega arith;
     small = rw (add-one, pow-suc 16 j) (omega (arith, R .small, digit-value (getD cs (at + j) 0) d (sym e) .1));
+    good = omega (arith, first-more cs (at + j) d (R .good) (omega (arith, inside)) (sym e));
     rest = rw (sym e, number) at (rw (next h) at (R .rest));
   }
 
@@ -49,9 +60,10 @@ module _ {cs : List ℕ} {at k n j : ℕ} (R : Reads cs at k n j) (inside : at +
       omega (arith, reads-more d h e .small, most)
 
   -- all are read
-  pub reads-all : k ≤ j → some n ≡ field cs at k
-  unfolding number
+  pub reads-all : k ≤ j → inl n ≡ fieldRead cs at k
+  unfolding number fieldRead
   reads-all h =
       let e : j ≡ k = omega (arith, R .within) in
       let z : drop j (take k (drop at cs)) ≡ [] = rw e (drop-of-length-le (take k (drop at cs)) {i = k} (omega (arith, long))) in
-      rw z at (R .rest)
+      let all : some n ≡ field cs at k = rw z at (R .rest) in
+      rw (sym all, fieldRead)

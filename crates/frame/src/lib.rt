@@ -4,8 +4,16 @@ ghost use mathlib.Core.List.{_++_};
 ghost use Prim.Native.Nat.{_+_, _*_, _/_, _<_, _≤_};
 ghost use lib.ListN.{length, take, drop};
 ghost use Rattle.model.specs.Frame as model;
-ghost use Rattle.frame.specs.Fields.{fieldsOf, parsed, said};
+ghost use Rattle.frame.specs.Fields.{fieldsOf, parsed, digitOf, said, fieldRead, fieldsRead};
 ghost use Rattle.frame.specs.Alternate.{alternate};
+
+const FRAME: u32 = 7;
+
+const DIGIT: u32 = 10;
+
+const KIND: u32 = 11;
+
+const RANGE: u32 = 12;
 
 pub struct Frame {
     pub batch: u32,
@@ -16,15 +24,27 @@ pub struct Frame {
     pub value: u32,
 }
 
-pub enum Parsed {
-    Good(Frame),
-    Bad,
+// What is wrong with a line: its number, and the place of a bad digit, 0 beside every other number.
+pub struct Fault {
+    pub number: u32,
+    pub place: u32,
 }
 
-// What digits say: a number, or none where one of them is no digit.
-enum Number {
+pub enum Parsed {
+    Good(Frame),
+    Bad(Fault),
+}
+
+// What a byte says: a digit, or none.
+enum Digit {
     Is(u32),
     None,
+}
+
+// What digits say: a number, or none, and where the first is that is no digit.
+enum Number {
+    Is(u32),
+    Bad(u32),
 }
 
 // In 64 bits, for two halves of a word.
@@ -45,22 +65,22 @@ fn eight_digits(x: u32) -> u64
 }
 
 // Lower case only: a line has one form, so that a frame has one line.
-fn digit_value(c: u8) -> Number
-    ensures { λ r. ⌜ said r ≡ model.value c ⌝ }
+fn digit_value(c: u8) -> Digit
+    ensures { λ r. ⌜ digitOf r ≡ model.value c ⌝ }
 {
     if c < 48 {
-        return Number::None;
+        return Digit::None;
     }
     if c < 58 {
-        return Number::Is((c - 48) as u32);
+        return Digit::Is((c - 48) as u32);
     }
     if c < 97 {
-        return Number::None;
+        return Digit::None;
     }
     if c < 103 {
-        return Number::Is((c - 87) as u32);
+        return Digit::Is((c - 87) as u32);
     }
-    Number::None
+    Digit::None
 }
 
 // k digits of x from `at` on, the high digit first; written from the low one, from the two halves in turn. Above the eight digits stand 0s.
@@ -81,16 +101,16 @@ pub fn put_hex(out: &mut [u8], at: usize, k: usize, x: u32)
     }
 }
 
-// The number in the k digits from `at` on.
+// The number in the k digits from `at` on. All before them are digits, so the first here that is none is the line's.
 fn read_hex(line: &[u8], at: usize, k: usize) -> Number
-    requires { ⌜ (at + k ≤ length (now line)) × (k ≤ 8) ⌝ }
-    ensures { λ r. ⌜ said r ≡ model.field (now (line .entry)) at k ⌝ }
+    requires { ⌜ (at + k ≤ length (now line)) × (at + k ≤ 34) × (k ≤ 8) × (at ≤ model.firstBad (now line)) ⌝ }
+    ensures { λ r. ⌜ said r ≡ fieldRead (now (line .entry)) at k ⌝ }
 {
     let mut n: u32 = 0;
     let mut j: usize = 0;
     while j < k {
-        let Number::Is(d) = digit_value(line[at + j]) else {
-            return Number::None;
+        let Digit::Is(d) = digit_value(line[at + j]) else {
+            return Number::Bad((at + j) as u32);
         };
         n = n * 16 + d;
         j = j + 1;
@@ -144,28 +164,43 @@ pub fn legal(f: Frame) -> bool
     f.count == 1
 }
 
-// The six fields of a line, where all are numbers.
+fn bad(number: u32, place: u32) -> Parsed
+    ensures { λ r. ⌜ parsed r ≡ model.fault number place ⌝ }
+{
+    Parsed::Bad(Fault {
+        number: number,
+        place: place,
+    })
+}
+
+// The six fields of a line, where all are numbers. They are read in the line's order, so the first bad digit is met first.
 fn fields(line: &[u8]) -> Parsed
     requires { ⌜ length (now line) ≡ 35 ⌝ }
-    ensures { λ r. ⌜ parsed r ≡ model.fields (now (line .entry)) ⌝ }
+    ensures { λ r. ⌜ parsed r ≡ fieldsRead (now (line .entry)) ⌝ }
 {
-    let Number::Is(batch) = read_hex(line, 0, 8) else {
-        return Parsed::Bad;
+    let batch = match read_hex(line, 0, 8) {
+        Number::Is(n) => n,
+        Number::Bad(place) => return bad(DIGIT, place),
     };
-    let Number::Is(index) = read_hex(line, 8, 4) else {
-        return Parsed::Bad;
+    let index = match read_hex(line, 8, 4) {
+        Number::Is(n) => n,
+        Number::Bad(place) => return bad(DIGIT, place),
     };
-    let Number::Is(count) = read_hex(line, 12, 4) else {
-        return Parsed::Bad;
+    let count = match read_hex(line, 12, 4) {
+        Number::Is(n) => n,
+        Number::Bad(place) => return bad(DIGIT, place),
     };
-    let Number::Is(kind) = read_hex(line, 16, 2) else {
-        return Parsed::Bad;
+    let kind = match read_hex(line, 16, 2) {
+        Number::Is(n) => n,
+        Number::Bad(place) => return bad(DIGIT, place),
     };
-    let Number::Is(key) = read_hex(line, 18, 8) else {
-        return Parsed::Bad;
+    let key = match read_hex(line, 18, 8) {
+        Number::Is(n) => n,
+        Number::Bad(place) => return bad(DIGIT, place),
     };
-    let Number::Is(value) = read_hex(line, 26, 8) else {
-        return Parsed::Bad;
+    let value = match read_hex(line, 26, 8) {
+        Number::Is(n) => n,
+        Number::Bad(place) => return bad(DIGIT, place),
     };
     Parsed::Good(Frame {
         batch: batch,
@@ -177,21 +212,25 @@ fn fields(line: &[u8]) -> Parsed
     })
 }
 
-// What a line says; any slice may be given, and all that is no line is Bad.
+// What a line says, or what is wrong with it; any slice may be given.
 pub fn parse(line: &[u8]) -> Parsed
-    ensures { λ r. ⌜ parsed r ≡ model.parse (now (line .entry)) ⌝ }
+    ensures { λ r. ⌜ parsed r ≡ model.read (now (line .entry)) ⌝ }
 {
     if line.len() != 35 {
-        return Parsed::Bad;
+        return bad(FRAME, 0);
     }
     if line[34] != 10 {
-        return Parsed::Bad;
+        return bad(FRAME, 0);
     }
-    let Parsed::Good(f) = fields(line) else {
-        return Parsed::Bad;
+    let said = fields(line);
+    let Parsed::Good(f) = said else {
+        return said;
     };
-    if legal(f) {
-        return Parsed::Good(f);
+    if 2 < f.kind {
+        return bad(KIND, 0);
     }
-    Parsed::Bad
+    if legal(f) {
+        return said;
+    }
+    bad(RANGE, 0)
 }

@@ -3,38 +3,37 @@ use mathlib.Core.Path.{_≡_, refl, ap, sym, subst, _∙_}
 use mathlib.Core.Logic.{_≢_}
 use Prim.Native.Nat.{ℕ, _<_}
 use mathlib.Core.Bool.{true, false}
-use mathlib.Core.Option.{Option, none, some}
 use mathlib.Core.List.{List}
 use native.Mathlib.Omega.{arith}
 use Rattle.model.specs.Block.{SoundBlock}
 use Rattle.model.specs.Frame as lines
+use Rattle.model.specs.Frame.{Reading, good, fault}
 use Rattle.model.specs.Inbox.{heardAt, SoundInbox, marked, missing}
-use Rattle.model.specs.Numbers.{FRAME}
 use Rattle.model.specs.Calls.{passes}
 use Rattle.model.specs.Link as link
 use Rattle.model.specs.Link.{Parse, turnedAway, Takes, Says, Receive}
 use Rattle.model.proofs.Checks.{check-map, check-holds, check-next}
 use Rattle.model.proofs.Heard.{Markable}
-use Rattle.model.proofs.Lines.{legal-exactly, parse-only}
+use Rattle.model.proofs.Lines.{legal-exactly, good-parse, parse-only}
 use Rattle.frame.specs.declared.Frame.{Frame}
 use Rattle.frame.specs.Fields.{fieldsOf}
 use Rattle.link.specs.declared.Heard.{Heard}
 use Rattle.link.specs.Answers.{heardOf, step, Ready, Belongs, Editing, Fit}
 
--- the fields of an answer
+-- the fields of an answer to a line that has no bad digit
 abbrev told : (number again missing : ℕ) → link.Heard
-told number again missing = record { number = number; again = again; missing = missing }
+told number again missing = record { number = number; again = again; missing = missing; place = 0 }
 
 -- a refusal, under the number that the check gave
 away : {b x : List ℕ} {a : Heard} {n m : ℕ} → heardOf a ≡ told n 0 0 → n ≡ m → turnedAway (step b x b x a) m
 away q e = (q ∙ ap (λ n. told n 0 0) e, refl, refl)
 
 -- a line on its own
-pub parsed-none : {o : Option lines.Frame} → none ≡ o → Parse o FRAME (record { batch = 0; index = 0; count = 0; kind = 0; key = 0; value = 0 })
-parsed-none e = subst (λ o. Parse o FRAME (record { batch = 0; index = 0; count = 0; kind = 0; key = 0; value = 0 })) e (refl, refl)
+pub parsed-fault : {r : Reading} (n p : ℕ) → fault n p ≡ r → Parse r n (record { batch = 0; index = 0; count = 0; kind = 0; key = 0; value = 0 }) p
+parsed-fault n p e = subst (λ r. Parse r n (record { batch = 0; index = 0; count = 0; kind = 0; key = 0; value = 0 }) p) e (refl, refl, refl)
 
-pub parsed-some : {o : Option lines.Frame} (f : lines.Frame) → some f ≡ o → Parse o 0 f
-parsed-some f e = subst (λ o. Parse o 0 f) e (refl, refl)
+pub parsed-good : {r : Reading} (f : lines.Frame) → good f ≡ r → Parse r 0 f 0
+parsed-good f e = subst (λ r. Parse r 0 f 0) e (refl, refl, refl)
 
 -- what the first checks leave to go on with
 pub record Checked (b x : List ℕ) (v : ℕ) : Type 0 where
@@ -54,14 +53,14 @@ not-ready line R ne q =
 
 -- the line's own part of receive
 module _ {b x : List ℕ} {v : ℕ} (C : Checked b x v) (line : List ℕ) where
-  says : {b′ x′ : List ℕ} (a : Heard) {o : Option lines.Frame} → o ≡ lines.parse line → Says (step b x b′ x′ a) v o → Receive (step b x b′ x′ a) v line
+  says : {b′ x′ : List ℕ} (a : Heard) {r : Reading} → r ≡ lines.read line → Says (step b x b′ x′ a) v r → Receive (step b x b′ x′ a) v line
   says {b′} {x′} a e S = passes (C .block .shaped) (passes (C .inbox .long) (passes (C .block) (passes (C .inbox) (passes (C .known) (subst (Says (step b x b′ x′ a) v) e S)))))
 
-  pub malformed : {a : Heard} → none ≡ lines.parse line → heardOf a ≡ told FRAME 0 0 → Receive (step b x b x a) v line
-  malformed {a} e q = says a e (q, refl, refl)
+  pub malformed : {a : Heard} (n p : ℕ) → fault n p ≡ lines.read line → heardOf a ≡ record { number = n; again = 0; missing = 0; place = p } → Receive (step b x b x a) v line
+  malformed {a} n p e q = says a e (q, refl, refl)
 
   -- a line that says f
-  module _ (f : Frame) (e : some (fieldsOf f) ≡ lines.parse line) {n : ℕ} (B : Belongs x f n) where
+  module _ (f : Frame) (e : good (fieldsOf f) ≡ lines.read line) {n : ℕ} (B : Belongs x f n) where
     pub foreign : {a : Heard} → n ≢ 0 → heardOf a ≡ told n 0 0 → Receive (step b x b x a) v line
     foreign {a} ne q = says a e (check-map B (away q) (λ B. check-map B (away q) (λ z. absurd (ne z))))
 
@@ -71,13 +70,13 @@ module _ {b x : List ℕ} {v : ℕ} (C : Checked b x v) (line : List ℕ) where
     -- it was parsed, so it is legal, and its index has a bit
     pub fit : n ≡ 0 → Fit b x v f
     fit z =
-        let legal = legal-exactly (fieldsOf f) .0 (parse-only line (fieldsOf f) (sym e) .1) in
+        let legal = legal-exactly (fieldsOf f) .0 (parse-only line (fieldsOf f) (good-parse line (fieldsOf f) .1 (sym e)) .1) in
         record { block = C .block; inbox = C .inbox; known = C .known; counts = check-holds 8 (check-next 7 B z) z; small = legal .most; below = legal .below }
 
 -- what hear answers of a repeat, where the edit found no room, and where it was done
 module _ {b x : List ℕ} {v : ℕ} {f : Frame} (F : Fit b x v f) where
-  pub repeated : {m : ℕ} → heardAt x (f .index) ≡ true → m ≡ missing x → Takes (step b x b x (record { number = 0; again = 1; missing = m })) v (fieldsOf f) (heardAt x (f .index))
-  repeated {m} e q = subst (Takes (step b x b x (record { number = 0; again = 1; missing = m })) v (fieldsOf f)) (sym e) (ap (told 0 1) q, refl, refl)
+  pub repeated : {m : ℕ} → heardAt x (f .index) ≡ true → m ≡ missing x → Takes (step b x b x (record { number = 0; again = 1; missing = m; place = 0 })) v (fieldsOf f) (heardAt x (f .index))
+  repeated {m} e q = subst (Takes (step b x b x (record { number = 0; again = 1; missing = m; place = 0 })) v (fieldsOf f)) (sym e) (ap (told 0 1) q, refl, refl)
 
   module _ (new : heardAt x (f .index) ≡ false) where
     -- its index may be marked
@@ -88,7 +87,7 @@ module _ {b x : List ℕ} {v : ℕ} {f : Frame} (F : Fit b x v f) where
       pub full : {a : Heard} → n ≢ 0 → heardOf a ≡ told n 0 0 → Takes (step b x after x a) v (fieldsOf f) (heardAt x (f .index))
       full {a} ne q = subst (Takes (step b x after x a) v (fieldsOf f)) (sym new) (check-map E (λ e. (q ∙ ap (λ n. told n 0 0) (e .0), e .1, refl)) (λ e. absurd (ne (e .0))))
 
-      pub done : {y : List ℕ} {m : ℕ} → n ≡ 0 → y ≡ marked x (f .count) (f .index) → m ≡ missing y → Takes (step b x after y (record { number = 0; again = 0; missing = m })) v (fieldsOf f) (heardAt x (f .index))
+      pub done : {y : List ℕ} {m : ℕ} → n ≡ 0 → y ≡ marked x (f .count) (f .index) → m ≡ missing y → Takes (step b x after y (record { number = 0; again = 0; missing = m; place = 0 })) v (fieldsOf f) (heardAt x (f .index))
       done {y} {m} z e q =
-          subst (Takes (step b x after y (record { number = 0; again = 0; missing = m })) v (fieldsOf f)) (sym new)
+          subst (Takes (step b x after y (record { number = 0; again = 0; missing = m; place = 0 })) v (fieldsOf f)) (sym new)
           (check-map E (λ u. let five : _≡_ {A = ℕ} 5 0 = sym (u .0) ∙ z in absurd (omega arith)) (λ u. (ap (told 0 0) (q ∙ ap missing e), u .1, e)))

@@ -19,7 +19,7 @@ use Rattle.frame.specs.Fields.{fieldsOf}
 use Rattle.link.specs.declared.Heard.{Heard}
 
 abbrev pub heardOf : Heard → link.Heard
-heardOf a = record { number = a .number; again = a .again; missing = a .missing }
+heardOf a = record { number = a .number; again = a .again; missing = a .missing; place = a .place }
 
 -- block and inbox before and after a line, and the answer
 abbrev pub step : (b x b′ x′ : List ℕ) → Heard → Step

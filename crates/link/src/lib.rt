@@ -3,6 +3,7 @@ use audit::audit;
 use block::Made;
 use block::makes_from;
 use block::root;
+use frame::Fault;
 use frame::Frame;
 use frame::Parsed;
 use inbox::heard;
@@ -31,56 +32,70 @@ const DAMAGED: u32 = 2;
 
 const VERSION: u32 = 3;
 
-const FRAME: u32 = 7;
-
 const BATCH: u32 = 8;
 
 const COUNT: u32 = 9;
 
-// 0 and a line's fields, or FRAME and zeros.
+// 0 and a line's fields, or what is wrong with it and zeros; the place of a bad digit.
 pub struct Said {
     pub number: u32,
     pub fields: Frame,
+    pub place: u32,
 }
 
-// The call's number, 1 for a repeat, and how many frames are missing; zeros on refusal.
+// The call's number, 1 for a repeat, how many frames are missing, and the place of a bad digit; zeros on any other refusal.
 pub struct Heard {
     pub number: u32,
     pub again: u32,
     pub missing: u32,
+    pub place: u32,
 }
 
 // What a line says on its own.
 pub fn parse(line: &[u8]) -> Said
-    ensures { λ r. ⌜ Parse (lines.parse (now (line .entry))) (r .number) (fieldsOf (r .fields)) ⌝ }
+    ensures { λ r. ⌜ Parse (lines.read (now (line .entry))) (r .number) (fieldsOf (r .fields)) (r .place) ⌝ }
 {
-    let Parsed::Good(f) = frame::parse(line) else {
-        let none = Frame {
-            batch: 0,
-            index: 0,
-            count: 0,
-            kind: 0,
-            key: 0,
-            value: 0,
-        };
-        return Said {
-            number: FRAME,
-            fields: none,
-        };
+    let none = Frame {
+        batch: 0,
+        index: 0,
+        count: 0,
+        kind: 0,
+        key: 0,
+        value: 0,
     };
-    Said {
-        number: 0,
-        fields: f,
+    match frame::parse(line) {
+        Parsed::Good(f) => Said {
+            number: 0,
+            fields: f,
+            place: 0,
+        },
+        Parsed::Bad(fault) => Said {
+            number: fault.number,
+            fields: none,
+            place: fault.place,
+        },
     }
 }
 
 fn refused(number: u32) -> Heard
-    ensures { λ r. ⌜ heardOf r ≡ record { number = number; again = 0; missing = 0 } ⌝ }
+    ensures { λ r. ⌜ heardOf r ≡ record { number = number; again = 0; missing = 0; place = 0 } ⌝ }
 {
     Heard {
         number: number,
         again: 0,
         missing: 0,
+        place: 0,
+    }
+}
+
+fn faulty(fault: Fault) -> Heard
+    ensures { λ r. ⌜ heardOf r ≡ record { number = fault .number; again = 0; missing = 0; place = fault .place } ⌝ }
+{
+    Heard {
+        number: fault.number,
+        again: 0,
+        missing: 0,
+        place: fault.place,
     }
 }
 
@@ -159,6 +174,7 @@ fn hear(b: &mut [u32], x: &mut [u32], version: u32, f: Frame) -> Heard
             number: 0,
             again: 1,
             missing: missing(x),
+            place: 0,
         };
     }
     let number = edit(b, version, f);
@@ -170,6 +186,7 @@ fn hear(b: &mut [u32], x: &mut [u32], version: u32, f: Frame) -> Heard
         number: 0,
         again: 0,
         missing: missing(x),
+        place: 0,
     }
 }
 
@@ -182,8 +199,9 @@ pub fn receive(b: &mut [u32], x: &mut [u32], version: u32, line: &[u8]) -> Heard
     if n != 0 {
         return refused(n);
     }
-    let Parsed::Good(f) = frame::parse(line) else {
-        return refused(FRAME);
+    let f = match frame::parse(line) {
+        Parsed::Good(f) => f,
+        Parsed::Bad(fault) => return faulty(fault),
     };
     let m = belongs(x, f);
     if m != 0 {

@@ -4,7 +4,7 @@ use Prim.Native.Nat.{ℕ}
 use mathlib.Core.Bool.{Bool, false, _||_}
 use mathlib.Core.Option.{Option, some}
 use mathlib.Core.List.{List, [], _∷_, _++_, map}
-use lib.ListN.{length, replicate}
+use lib.ListN.{length, replicate, set}
 use lib.Dec.{eqb}
 use Rattle.model.specs.Tree.{Tree, leaf, node, Entry, size, idOf, lookup, entries}
 use Rattle.model.specs.Supply.{Supply, firstOf, afterFirst, isNone, among, next, taken, back, given}
@@ -13,8 +13,8 @@ use Rattle.model.specs.Listing.{Row, turn, tooDeep, walk, listing}
 use Rattle.model.specs.Delta.{Change, changed, puts, removes, delta}
 use Rattle.model.specs.Heap.{load, tree, version, freeFrom, free}
 use Rattle.model.specs.Block.{heap}
-use Rattle.model.specs.Frame.{Frame, digit, value, digits, number, line, kindLegal, legal, fields, parse, nothing, frameOf, numbered, framesOf, frames}
-use Rattle.model.specs.Numbers.{SHAPE, DAMAGED, VERSION, RULE, NO_ROOM, TOO_DEEP, FRAME, BATCH, COUNT}
+use Rattle.model.specs.Frame.{Frame, digit, value, digits, number, line, kindLegal, legal, fields, Reading, fault, firstBad, judged, read, parse, nothing, frameOf, numbered, framesOf, frames}
+use Rattle.model.specs.Numbers.{SHAPE, DAMAGED, VERSION, RULE, NO_ROOM, TOO_DEEP, FRAME, BATCH, COUNT, DIGIT, KIND, RANGE, SUM}
 use Rattle.model.specs.Calls.{freshBlock}
 use Rattle.model.specs.Lists.{rowWords, laid, part, listed, framed}
 use Rattle.model.proofs.Small.{before, amid}
@@ -120,6 +120,10 @@ bytes =
     ∷ 48 ∷ 48 ∷ 48 ∷ 48 ∷ 48 ∷ 48 ∷ 49 ∷ 102
     ∷ 10 ∷ []
 
+-- the example with the bytes at two places changed
+abbrev spoilt : (i c j d : ℕ) → List ℕ
+spoilt i c j d = set (set bytes i c) j d
+
 -- what a case shows
 pub data Shown : Type 0 where
   hangs : Shape → Shown
@@ -132,6 +136,7 @@ pub data Shown : Type 0 where
   stands : Tree → Shown
   writes : List ℕ → Shown
   reads : Option Frame → Shown
+  gives : Reading → Shown
 
 pub record Case : Type 0 where
   pub number : ℕ
@@ -191,7 +196,17 @@ table =
     }
     ∷ record { number = 0; shown = writes (line example); told = writes bytes }
     ∷ record { number = 0; shown = reads (parse bytes); told = reads (some example) }
-    ∷ record { number = 0; shown = writes (SHAPE ∷ DAMAGED ∷ VERSION ∷ RULE ∷ NO_ROOM ∷ TOO_DEEP ∷ FRAME ∷ BATCH ∷ COUNT ∷ []); told = writes (1 ∷ 2 ∷ 3 ∷ 4 ∷ 5 ∷ 6 ∷ 7 ∷ 8 ∷ 9 ∷ []) }
+    ∷ record { number = 0; shown = gives (read (bytes ++ 10 ∷ [])); told = gives (fault 7 0) }
+    ∷ record { number = 0; shown = gives (read (spoilt 0 71 34 13)); told = gives (fault 7 0) }
+    ∷ record { number = 0; shown = gives (read (spoilt 8 65 33 103)); told = gives (fault 10 8) }
+    ∷ record { number = 0; shown = gives (read (spoilt 17 51 33 103)); told = gives (fault 10 33) }
+    ∷ record { number = 0; shown = gives (read (spoilt 17 51 15 48)); told = gives (fault 11 0) }
+    ∷ record { number = 0; shown = gives (read (spoilt 17 50 15 49)); told = gives (fault 12 0) }
+    ∷ record {
+      number = 0;
+      shown = writes (SHAPE ∷ DAMAGED ∷ VERSION ∷ RULE ∷ NO_ROOM ∷ TOO_DEEP ∷ FRAME ∷ BATCH ∷ COUNT ∷ DIGIT ∷ KIND ∷ RANGE ∷ SUM ∷ []);
+      told = writes (1 ∷ 2 ∷ 3 ∷ 4 ∷ 5 ∷ 6 ∷ 7 ∷ 8 ∷ 9 ∷ 10 ∷ 11 ∷ 12 ∷ 14 ∷ []);
+    }
     ∷ record { number = 0; shown = writes (freshBlock 32); told = writes (32 ∷ replicate 273 0) }
     ∷ record { number = 0; shown = stands (version (heap amid) 0); told = stands (node 4 1 10 leaf (node 3 2 4294967295 leaf leaf)) }
     ∷ record { number = 0; shown = writes (free (heap amid)); told = writes (1 ∷ freeFrom (λ n. false) 5 28) }
@@ -199,5 +214,5 @@ table =
 
 -- every case shows what document 01 says
 pub worked-cases : map (λ (c : Case). c .shown) table ≡ map (λ (c : Case). c .told) table
-unfolding table shape keys occurs supplyBeside built size idOf lookup entries firstOf afterFirst isNone among next taken back given freeFrom twice rotateLeft rotateRight balanced insertBy insert removeMin withoutKey removePresent remove join split unionBy union rest difference mergeBy diffBy turn tooDeep walk listing changed puts removes delta digit value digits number line kindLegal legal fields parse frameOf numbered framesOf freshBlock rowWords laid load tree before amid
+unfolding table shape keys occurs supplyBeside built size idOf lookup entries firstOf afterFirst isNone among next taken back given freeFrom twice rotateLeft rotateRight balanced insertBy insert removeMin withoutKey removePresent remove join split unionBy union rest difference mergeBy diffBy turn tooDeep walk listing changed puts removes delta digit value digits number line kindLegal legal fields firstBad judged read parse frameOf numbered framesOf freshBlock rowWords laid load tree before amid
 worked-cases = refl

@@ -1,16 +1,17 @@
 -- Digits: a number is read as it was written, and nothing else is read.
-use mathlib.Core.Path.{_≡_, refl, ap, _∙_}
-use Prim.Native.Nat.{ℕ, zero, suc, _+_, _-_, _*_, _/_, _%_, _^_, _<_}
+use mathlib.Core.Path.{_≡_, refl, ap, sym, _∙_}
+use mathlib.Core.Logic.{_≢_}
+use Prim.Native.Nat.{ℕ, zero, suc, _+_, _-_, _*_, _/_, _%_, _^_, _≤_, _<_}
 use mathlib.Core.Bool.{Bool, true, false, _&&_}
 use mathlib.Core.Option.{Option, none, some}
 use mathlib.Core.List.{List, [], _∷_, _++_, append-nil}
 use native.Mathlib.Nat.{pow-suc, add-zero, zero-add}
 use native.Mathlib.Omega.{arith}
 use lib.Dec.{ltb, leb}
-use lib.ListN.{length, length-append}
+use lib.ListN.{length, getD, drop, length-append}
 use lib.Seq.{append-snoc}
 use borrow.Author.Tests.{ltb-true, ltb-false, leb-true, lt-ltb, le-ltb, le-leb}
-use Rattle.model.specs.Frame.{digit, value, digits, number}
+use Rattle.model.specs.Frame.{digit, value, digits, number, firstBad}
 use Rattle.model.proofs.Tests.{both}
 
 -- a digit is read as it was written
@@ -100,3 +101,77 @@ number-behind (c ∷ cs) k a n e h = go (value c) refl (λ m. number-behind cs (
 pub digits-number : (cs : List ℕ) (n : ℕ) → number 0 cs ≡ some n → (cs ≡ digits (length cs) n) × (n < 16 ^ length cs)
 unfolding digits
 digits-number cs n e = rw (zero-add (length cs)) at (number-behind cs 0 0 n e (omega arith))
+
+-- The first byte that is no digit.
+
+some-none : {d : ℕ} → _≡_ {A = Option ℕ} (some d) none → ⊥
+some-none e = let z : _≡_ {A = ℕ} 0 1 = cc e in absurd (omega arith)
+
+-- those before it are digits
+pub first-before : (cs : List ℕ) (i : ℕ) → i < firstBad cs → value (getD cs i 0) ≢ none
+unfolding firstBad
+first-before [] i h = absurd (omega arith)
+first-before (c ∷ cs) i h = go (value c) refl i (first-before cs) h
+  where
+    go : (o : Option ℕ) → value c ≡ o → (i : ℕ) → ((j : ℕ) → j < firstBad cs → value (getD cs j 0) ≢ none) → i < firstBad (c ∷ cs) → value (getD (c ∷ cs) i 0) ≢ none
+    go none q i ih h = absurd (omega (arith, rw (q, firstBad) at h))
+    go (some d) q zero ih h = λ e. some-none (rw q at e)
+    go (some d) q (suc j) ih h = ih j (omega (arith, rw (q, firstBad) at h))
+
+-- it is none
+pub first-is : (cs : List ℕ) → firstBad cs < length cs → value (getD cs (firstBad cs) 0) ≡ none
+unfolding firstBad
+first-is [] h = absurd (omega arith)
+first-is (c ∷ cs) h = go (value c) refl (first-is cs)
+  where
+    go : (o : Option ℕ) → value c ≡ o → (firstBad cs < length cs → value (getD cs (firstBad cs) 0) ≡ none) → value (getD (c ∷ cs) (firstBad (c ∷ cs)) 0) ≡ none
+    go none q ih = rw (q, firstBad) q
+    go (some d) q ih = rw (q, firstBad) (ih (omega (arith, rw (q, firstBad) at h)))
+
+-- behind digits a byte that is none is the first, and one that is a digit is not
+pub first-bad : (cs : List ℕ) (i : ℕ) → i ≤ firstBad cs → value (getD cs i 0) ≡ none → i ≡ firstBad cs
+first-bad cs i h e = go (ltb i (firstBad cs)) refl
+  where
+    go : (b : Bool) → ltb i (firstBad cs) ≡ b → i ≡ firstBad cs
+    go true q = absurd (first-before cs i (ltb-true i (firstBad cs) q) e)
+    go false q = omega (arith, ltb-false i (firstBad cs) q)
+
+pub first-more : (cs : List ℕ) (i d : ℕ) → i ≤ firstBad cs → i < length cs → value (getD cs i 0) ≡ some d → i < firstBad cs
+first-more cs i d h l e = go (ltb i (firstBad cs)) refl
+  where
+    go : (b : Bool) → ltb i (firstBad cs) ≡ b → i < firstBad cs
+    go true q = ltb-true i (firstBad cs) q
+    go false q =
+        let z : firstBad cs ≡ i = omega (arith, ltb-false i (firstBad cs) q) in
+        absurd (some-none (sym e ∙ ap (λ j. value (getD cs j 0)) (sym z) ∙ first-is cs (omega arith)))
+
+-- behind digits it is the first of the rest
+pub first-drop : (cs : List ℕ) (at : ℕ) → at ≤ firstBad cs → firstBad cs ≡ at + firstBad (drop at cs)
+unfolding firstBad
+first-drop cs zero h = sym (zero-add (firstBad cs))
+first-drop [] (suc k) h = absurd (omega arith)
+first-drop (c ∷ cs) (suc k) h = go (value c) refl (first-drop cs k)
+  where
+    go : (o : Option ℕ) → value c ≡ o → (k ≤ firstBad cs → firstBad cs ≡ k + firstBad (drop k cs)) → firstBad (c ∷ cs) ≡ suc k + firstBad (drop k cs)
+    go none q ih = absurd (omega (arith, rw (q, firstBad) at h))
+    go (some d) q ih = rw (q, firstBad) (omega (arith, ih (omega (arith, rw (q, firstBad) at h))))
+
+-- it is not among bytes that are read
+pub number-good : (cs ds : List ℕ) (a n : ℕ) → number a cs ≡ some n → length cs ≤ firstBad (cs ++ ds)
+unfolding number firstBad
+number-good [] ds a n e = omega arith
+number-good (c ∷ cs) ds a n e = go (value c) refl (λ m. number-good cs ds m n)
+  where
+    go : (o : Option ℕ) → value c ≡ o → ((m : ℕ) → number m cs ≡ some n → length cs ≤ firstBad (cs ++ ds)) → length (c ∷ cs) ≤ firstBad (c ∷ cs ++ ds)
+    go none q ih = let z : _≡_ {A = ℕ} 0 1 = cc (rw (q, number) at e) in absurd (omega arith)
+    go (some v) q ih = rw (q, firstBad) (omega (arith, ih (a * 16 + v) (rw (q, number) at e)))
+
+-- and it is among those that are not
+pub number-bad : (cs ds : List ℕ) (a : ℕ) → number a cs ≡ none → firstBad (cs ++ ds) < length cs
+unfolding number firstBad
+number-bad [] ds a e = absurd (some-none e)
+number-bad (c ∷ cs) ds a e = go (value c) refl (λ m. number-bad cs ds m)
+  where
+    go : (o : Option ℕ) → value c ≡ o → ((m : ℕ) → number m cs ≡ none → firstBad (cs ++ ds) < length cs) → firstBad (c ∷ cs ++ ds) < length (c ∷ cs)
+    go none q ih = rw (q, firstBad) (omega arith)
+    go (some v) q ih = rw (q, firstBad) (omega (arith, ih (a * 16 + v) (rw (q, number) at e)))

@@ -54,6 +54,7 @@ pub mod Cutting
 -- Frames, inbox, replica
 pub mod Digits
 pub mod Lines
+pub mod Faults
 pub mod Frames
 pub mod Heard
 pub mod Missing

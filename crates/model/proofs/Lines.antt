@@ -1,16 +1,18 @@
 -- Frame lines: a line that is written is read as it was, and no other line is read.
-use mathlib.Core.Path.{_≡_, refl, ap, sym, _∙_}
+use mathlib.Core.Path.{_≡_, refl, ap, sym, subst, _∙_}
 use Prim.Native.Nat.{ℕ, zero, suc, _+_, _^_, _≤_, _<_}
 use mathlib.Core.Logic.{_⊎_, inl, inr, _↔_}
-use mathlib.Core.Bool.{Bool, true, false, _&&_}
+use mathlib.Core.Bool.{Bool, true, false, _&&_, true≢false}
 use mathlib.Core.Option.{Option, none, some}
 use mathlib.Core.List.{List, [], _∷_, _++_}
 use native.Mathlib.Omega.{arith}
+use native.Mathlib.Decide.{ℕ-discrete}
 use lib.Dec.{eqb, ltb, leb}
 use lib.ListN.{length, getD, take, drop, length-drop}
 use lib.Seq.{take-all, take-add, take-suc, length-take-le}
-use borrow.Author.Tests.{eqb-true, ltb-true, leb-true, eq-eqb, lt-ltb, le-leb}
-use Rattle.model.specs.Frame.{Frame, _>>=_, digits, line, legal, kindLegal, Fitting, field, fields, parse}
+use borrow.Author.Tests.{eqb-true, ltb-true, leb-true, leb-false, eq-eqb, lt-ltb, le-leb, lt-leb}
+use Rattle.model.specs.Frame.{Frame, _>>=_, digits, line, legal, kindLegal, Fitting, field, fields, Reading, good, fault, firstBad, judged, read, parse}
+use Rattle.model.specs.Numbers.{FRAME, DIGIT, KIND, RANGE}
 use Rattle.model.proofs.Tests.{both, either}
 use Rattle.model.proofs.Digits.{number-digits, digits-number}
 
@@ -82,15 +84,15 @@ unfolding line digits
 line-length f = refl
 
 -- what the six fields say
-record Read (cs : List ℕ) (f : Frame) : Type 0 where
-  batch : field cs 0 8 ≡ some (f .batch)
-  index : field cs 8 4 ≡ some (f .index)
-  count : field cs 12 4 ≡ some (f .count)
-  kind : field cs 16 2 ≡ some (f .kind)
-  key : field cs 18 8 ≡ some (f .key)
-  value : field cs 26 8 ≡ some (f .value)
+pub record Read (cs : List ℕ) (f : Frame) : Type 0 where
+  pub batch : field cs 0 8 ≡ some (f .batch)
+  pub index : field cs 8 4 ≡ some (f .index)
+  pub count : field cs 12 4 ≡ some (f .count)
+  pub kind : field cs 16 2 ≡ some (f .kind)
+  pub key : field cs 18 8 ≡ some (f .key)
+  pub value : field cs 26 8 ≡ some (f .value)
 
-read-fields : (cs : List ℕ) (f : Frame) → Read cs f → fields cs ≡ some f
+pub read-fields : (cs : List ℕ) (f : Frame) → Read cs f → fields cs ≡ some f
 unfolding fields
 read-fields cs f r = rw (r .batch, fields) (rw (r .index) (rw (r .count) (rw (r .kind) (rw (r .key) (rw (r .value))))))
 
@@ -98,7 +100,7 @@ bind-some : {A B : Type 0} (x : Option A) (g : A → Option B) (b : B) → (x >>
 bind-some none g b e = let z : _≡_ {A = ℕ} 0 1 = cc e in absurd (omega arith)
 bind-some (some a) g b e = (a, refl, e)
 
-fields-read : (cs : List ℕ) (f : Frame) → fields cs ≡ some f → Read cs f
+pub fields-read : (cs : List ℕ) (f : Frame) → fields cs ≡ some f → Read cs f
 unfolding fields
 fields-read cs f e =
     let a = bind-some (field cs 0 8) _ f e in
@@ -117,10 +119,98 @@ fields-read cs f e =
       value = h .1 ∙ ap (λ x. some (x .value)) r;
     }
 
+-- 35 bytes, the last of them a newline
+pub record Closed (cs : List ℕ) : Type 0 where
+  pub long : length cs ≡ 35
+  pub newline : getD cs 34 0 ≡ 10
+
+-- what is read, by the first test that fails
+module _ (cs : List ℕ) where
+  pub read-open : (Closed cs → ⊥) → read cs ≡ fault FRAME 0
+  unfolding read
+  read-open o = go (eqb (length cs) 35 && eqb (getD cs 34 0) 10) refl
+    where
+      go : (b : Bool) → (eqb (length cs) 35 && eqb (getD cs 34 0) 10) ≡ b → read cs ≡ fault FRAME 0
+      go true q = let t = both (eqb (length cs) 35) (eqb (getD cs 34 0) 10) q in absurd (o (record { long = eqb-true (length cs) 35 (t .0); newline = eqb-true (getD cs 34 0) 10 (t .1) }))
+      go false q = rw (q, read)
+
+  module _ (C : Closed cs) where
+    pub read-digit : fields cs ≡ none → read cs ≡ fault DIGIT (firstBad cs)
+    unfolding read
+    read-digit e = rw (eq-eqb (length cs) 35 (C .long), eq-eqb (getD cs 34 0) 10 (C .newline), read) (rw e)
+
+    module _ {f : Frame} (e : fields cs ≡ some f) where
+      read-judged : read cs ≡ judged f
+      unfolding read
+      read-judged = rw (eq-eqb (length cs) 35 (C .long), eq-eqb (getD cs 34 0) 10 (C .newline), read) (rw e)
+
+      pub read-kind : 2 < f .kind → read cs ≡ fault KIND 0
+      unfolding judged
+      read-kind h = read-judged ∙ rw (lt-leb (f .kind) 2 h, judged)
+
+      pub read-range : f .kind ≤ 2 → legal f ≡ false → read cs ≡ fault RANGE 0
+      unfolding judged
+      read-range h l = read-judged ∙ rw (le-leb (f .kind) 2 h, judged) (rw l)
+
+      pub read-good : legal f ≡ true → read cs ≡ good f
+      unfolding judged
+      read-good l = read-judged ∙ rw (le-leb (f .kind) 2 (legal-says f l .kind .known), judged) (rw l)
+
+-- the five ways that a line can go
+pub data Way (cs : List ℕ) : Reading → Type 0 where
+  opened : (Closed cs → ⊥) → Way cs (fault FRAME 0)
+  unread : Closed cs → fields cs ≡ none → Way cs (fault DIGIT (firstBad cs))
+  unknown : Closed cs → (f : Frame) → fields cs ≡ some f → 2 < f .kind → Way cs (fault KIND 0)
+  unruly : Closed cs → (f : Frame) → fields cs ≡ some f → f .kind ≤ 2 → (Legal f → ⊥) → Way cs (fault RANGE 0)
+  whole : Closed cs → (f : Frame) → fields cs ≡ some f → legal f ≡ true → Way cs (good f)
+
+pub way : (cs : List ℕ) → Way cs (read cs)
+way cs = first (ℕ-discrete (length cs) 35) (ℕ-discrete (getD cs 34 0) 10)
+  where
+    ruled : Closed cs → (f : Frame) → fields cs ≡ some f → (b : Bool) → legal f ≡ b → (k : Bool) → leb (f .kind) 2 ≡ k → Way cs (read cs)
+    ruled C f e true l k q = subst (Way cs) (sym (read-good cs C e l)) (whole C f e l)
+    ruled C f e false l true q = subst (Way cs) (sym (read-range cs C e (leb-true (f .kind) 2 q) l)) (unruly C f e (leb-true (f .kind) 2 q) (λ L. true≢false (sym (says-legal f L) ∙ l)))
+    ruled C f e false l false q = subst (Way cs) (sym (read-kind cs C e (leb-false (f .kind) 2 q))) (unknown C f e (leb-false (f .kind) 2 q))
+
+    said : Closed cs → (o : Option Frame) → fields cs ≡ o → Way cs (read cs)
+    said C none e = subst (Way cs) (sym (read-digit cs C e)) (unread C e)
+    said C (some f) e = ruled C f e (legal f) refl (leb (f .kind) 2) refl
+
+    no-form : (Closed cs → ⊥) → Way cs (read cs)
+    no-form o = subst (Way cs) (sym (read-open cs o)) (opened o)
+
+    first : Dec (length cs ≡ 35) → Dec (getD cs 34 0 ≡ 10) → Way cs (read cs)
+    first (yes l) (yes n) = said (record { long = l; newline = n }) (fields cs) refl
+    first (yes l) (no ne) = no-form (λ C. ne (C .newline))
+    first (no ne) n = no-form (λ C. ne (C .long))
+
+-- a fault's number is none below FRAME
+pub fault-least : (cs : List ℕ) (n p : ℕ) → read cs ≡ fault n p → FRAME ≤ n
+fault-least cs n p e = go (read cs) (way cs) e
+  where
+    same : {m q : ℕ} → fault m q ≡ fault n p → m ≡ n
+    same e = cc e
+
+    go : (r : Reading) → Way cs r → r ≡ fault n p → FRAME ≤ n
+    go r (opened o) e = omega (arith, same e)
+    go r (unread C u) e = omega (arith, same e)
+    go r (unknown C f u h) e = omega (arith, same e)
+    go r (unruly C f u h l) e = omega (arith, same e)
+    go r (whole C f u l) e = let z : _≡_ {A = ℕ} 0 1 = cc e in absurd (omega arith)
+
+-- a reading that is good is the line's frame, and no other
+pub good-parse : (cs : List ℕ) (f : Frame) → (parse cs ≡ some f) ↔ (read cs ≡ good f)
+unfolding parse
+good-parse cs f = (to (read cs) refl, λ e. rw (e, parse))
+  where
+    to : (r : Reading) → read cs ≡ r → parse cs ≡ some f → read cs ≡ good f
+    to (good g) e p = let s : g ≡ f = cc (rw (e, parse) at p) in e ∙ ap good s
+    to (fault n p) e q = let z : _≡_ {A = ℕ} 0 1 = cc (rw (e, parse) at q) in absurd (omega arith)
+
 -- a legal frame that fits is read from its line
 pub parse-line : (f : Frame) → legal f ≡ true → Fitting f → parse (line f) ≡ some f
-unfolding parse line digits
-parse-line f l h = rw (read-fields (line f) f r) (rw (l, _>>=_))
+unfolding line digits
+parse-line f l h = good-parse (line f) f .1 (read-good (line f) (record { long = refl; newline = refl }) (read-fields (line f) f r) l)
   where
     k : Legal f
     k = legal-says f l
@@ -148,27 +238,26 @@ digits-field cs at k n h e =
 
 -- parse takes nothing but the line of a legal frame that fits
 pub parse-only : (cs : List ℕ) (f : Frame) → parse cs ≡ some f → (cs ≡ line f) × (legal f ≡ true) × Fitting f
-unfolding parse line
-parse-only cs f e = go (eqb (length cs) 35 && eqb (getD cs 34 0) 10) refl
+unfolding line
+parse-only cs f e = go (read cs) (way cs) (good-parse cs f .0 e)
   where
-    read : length cs ≡ 35 → getD cs 34 0 ≡ 10 → legal f ≡ true → Read cs f → (cs ≡ line f) × (legal f ≡ true) × Fitting f
-    read l n k r =
+    cut : Closed cs → legal f ≡ true → Read cs f → (cs ≡ line f) × (legal f ≡ true) × Fitting f
+    cut C k r =
+        let l = C .long in
         let batch = digits-field cs 0 8 (f .batch) (omega arith) (r .batch) in
         let index = digits-field cs 8 4 (f .index) (omega arith) (r .index) in
         let count = digits-field cs 12 4 (f .count) (omega arith) (r .count) in
         let kind = digits-field cs 16 2 (f .kind) (omega arith) (r .kind) in
         let key = digits-field cs 18 8 (f .key) (omega arith) (r .key) in
         let value = digits-field cs 26 8 (f .value) (omega arith) (r .value) in
-        (cut-line cs l n ∙ rw (batch .0, index .0, count .0, kind .0, key .0, value .0), k, record { batch = batch .1; key = key .1; value = value .1 })
+        (cut-line cs l (C .newline) ∙ rw (batch .0, index .0, count .0, kind .0, key .0, value .0), k, record { batch = batch .1; key = key .1; value = value .1 })
 
-    legally : (b : Bool) (g : Frame) → legal g ≡ b → fields cs ≡ some g → elim b [ true ↦ some g | false ↦ none ] ≡ some f → (legal f ≡ true) × (fields cs ≡ some f)
-    legally true g k r q = let s : g ≡ f = cc q in (rw s at k, r ∙ ap some s)
-    legally false g k r q = let z : _≡_ {A = ℕ} 0 1 = cc q in absurd (omega arith)
+    bad : {n p : ℕ} → fault n p ≡ good f → ⊥
+    bad q = let z : _≡_ {A = ℕ} 0 1 = cc q in omega arith
 
-    go : (b : Bool) → (eqb (length cs) 35 && eqb (getD cs 34 0) 10) ≡ b → (cs ≡ line f) × (legal f ≡ true) × Fitting f
-    go true q =
-        let t = both (eqb (length cs) 35) (eqb (getD cs 34 0) 10) q in
-        let u = bind-some (fields cs) _ f (rw (q, parse) at e) in
-        let w = legally (legal (u .0)) (u .0) refl (u .1) (u .2) in
-        read (eqb-true (length cs) 35 (t .0)) (eqb-true (getD cs 34 0) 10 (t .1)) (w .0) (fields-read cs f (w .1))
-    go false q = let z : _≡_ {A = ℕ} 0 1 = cc (rw (q, parse) at e) in absurd (omega arith)
+    go : (r : Reading) → Way cs r → r ≡ good f → (cs ≡ line f) × (legal f ≡ true) × Fitting f
+    go r (opened o) q = absurd (bad q)
+    go r (unread C u) q = absurd (bad q)
+    go r (unknown C g u h) q = absurd (bad q)
+    go r (unruly C g u h l) q = absurd (bad q)
+    go r (whole C g u l) q = let s : g ≡ f = cc q in cut C (ap legal (sym s) ∙ l) (fields-read cs f (u ∙ ap some s))

@@ -2,11 +2,10 @@
 use mathlib.Core.Path.{_≡_, sym, _∙_}
 use Prim.Native.Nat.{ℕ}
 use mathlib.Core.Bool.{Bool, true, false}
-use mathlib.Core.Option.{Option, none, some}
 use mathlib.Core.List.{List}
 use Rattle.model.specs.Block.{Words}
 use Rattle.model.specs.Calls.{Check, fails, passes, Checked, Answer, Edit, Reads, Edits, Fresh}
-use Rattle.model.specs.Frame.{Frame, parse}
+use Rattle.model.specs.Frame.{Frame, Reading, good, fault, read}
 use Rattle.model.specs.Inbox.{heardAt}
 use Rattle.model.specs.Lists.{Report, Pieces, Lists}
 use Rattle.model.specs.Link.{Parse, CheckedInbox, Begin, Missing, Heard, Step, unchanged, Takes, Says, Receive}
@@ -53,9 +52,9 @@ lists-once b out x y start p a c A C = check-once A C same (λ A C. check-once A
 
 -- the calls of the link
 
-pub parse-once : (said : Option Frame) (n m : ℕ) (f g : Frame) → Parse said n f → Parse said m g → (n ≡ m) × (f ≡ g)
-parse-once none n m f g p q = (p .0 ∙ sym (q .0), p .1 ∙ sym (q .1))
-parse-once (some h) n m f g p q = (p .0 ∙ sym (q .0), p .1 ∙ sym (q .1))
+pub parse-once : (said : Reading) (n m : ℕ) (f g : Frame) (i j : ℕ) → Parse said n f i → Parse said m g j → (n ≡ m) × (f ≡ g) × (i ≡ j)
+parse-once (fault k h) n m f g i j p q = (p .0 ∙ sym (q .0), p .1 ∙ sym (q .1), p .2 ∙ sym (q .2))
+parse-once (good h) n m f g i j p q = (p .0 ∙ sym (q .0), p .1 ∙ sym (q .1), p .2 ∙ sym (q .2))
 
 pub begin-once : (x y z : List ℕ) (batch n m : ℕ) → Begin x y batch n → Begin x z batch m → (n ≡ m) × (y ≡ z)
 begin-once x y z batch n m A C = check-once A C (λ p q. (p .0 ∙ sym (q .0), p .1 ∙ sym (q .1))) (λ p q. (p .0 ∙ sym (q .0), p .1 ∙ sym (q .1)))
@@ -83,9 +82,9 @@ module _ (b x b1 b2 x1 x2 : List ℕ) (v : ℕ) (a c : Heard) (w1 : Words b1) (w
   takes-once f true A C = unchanged-once A C
   takes-once f false A C = check-once A C unchanged-once (λ p q. (p .0 ∙ sym (q .0), edited-once b b1 b2 v _ (p .1) (q .1) w1 w2, p .2 ∙ sym (q .2)))
 
-  says-once : (said : Option Frame) → Says s v said → Says t v said → Same
-  says-once none A C = unchanged-once A C
-  says-once (some f) A C = check-once A C unchanged-once (λ A C. check-once A C unchanged-once (takes-once f (heardAt x (f .index))))
+  says-once : (said : Reading) → Says s v said → Says t v said → Same
+  says-once (fault n p) A C = unchanged-once A C
+  says-once (good f) A C = check-once A C unchanged-once (λ A C. check-once A C unchanged-once (takes-once f (heardAt x (f .index))))
 
   pub receive-once : (line : List ℕ) → Receive s v line → Receive t v line → Same
-  receive-once line A C = check-once A C unchanged-once (λ A C. check-once A C unchanged-once (λ A C. check-once A C unchanged-once (λ A C. check-once A C unchanged-once (λ A C. check-once A C unchanged-once (says-once (parse line))))))
+  receive-once line A C = check-once A C unchanged-once (λ A C. check-once A C unchanged-once (λ A C. check-once A C unchanged-once (λ A C. check-once A C unchanged-once (λ A C. check-once A C unchanged-once (says-once (read line))))))

@@ -15,14 +15,14 @@ use Rattle.model.specs.Listing.{turn, tooDeep, walk, listing}
 use Rattle.model.specs.Delta.{changed, puts, removes, delta, deltaDeep}
 use Rattle.model.specs.Heap.{version, freeFrom, supply}
 use Rattle.model.specs.Block.{heap, SoundBlock}
-use Rattle.model.specs.Frame.{Frame, line, legal, kindLegal, parse, nothing, frameOf, numbered, framesOf, frames}
+use Rattle.model.specs.Frame.{Frame, line, legal, kindLegal, good, parse, nothing, frameOf, numbered, framesOf, frames}
 use Rattle.model.specs.Inbox.{heardAt, SoundInbox, begun, marked, missing, Complete}
 use Rattle.model.specs.Calls.{passes, Edited}
 use Rattle.model.specs.Link.{Step, frameRule, Takes, Says, Receive}
 use Rattle.model.specs.Replica.{Elsewhere, Hearing, still, then, Each, Some, Took, Genuine, Replicated}
 use Rattle.model.proofs.Turns.{same-lists-nothing}
 use Rattle.model.proofs.Growing.{stocked-supply}
-use Rattle.model.proofs.Lines.{parse-line}
+use Rattle.model.proofs.Lines.{good-parse, parse-line}
 use Rattle.model.proofs.Heard.{Markable, begun-batch, begun-count, begun-sound, begun-heard, marked-batch, marked-count, marked-sound, marked-other}
 use Rattle.model.proofs.Receiving.{Belongs}
 use Rattle.model.proofs.Standbys.{standby-replicates}
@@ -39,13 +39,13 @@ module _ {b b′ x : List ℕ} {v : ℕ} (f : Frame) (B : SoundBlock b) (X : Sou
   after = marked x (f .count) (f .index)
 
   abbrev step : Step
-  step = record { block = b; inbox = x; block′ = b′; inbox′ = after; answer = record { number = 0; again = 0; missing = missing after } }
+  step = record { block = b; inbox = x; block′ = b′; inbox′ = after; answer = record { number = 0; again = 0; missing = missing after; place = 0 } }
 
   received : Receive step v (line f)
   received =
       let takes : Takes step v f (heardAt x (f .index)) = subst (Takes step v f) (sym new) (passes room (refl, E, refl)) in
-      let says : Says step v (some f) = passes (W .batch) (passes (W .counts) takes) in
-      passes (B .shaped) (passes (X .long) (passes B (passes X (passes lt (subst (Says step v) (sym said) says)))))
+      let says : Says step v (good f) = passes (W .batch) (passes (W .counts) takes) in
+      passes (B .shaped) (passes (X .long) (passes B (passes X (passes lt (subst (Says step v) (sym (good-parse (line f) f .0 said)) says)))))
 
 -- A put and a remove.
 
@@ -85,11 +85,11 @@ whole = marked half 2 1
 first : Markable (begun 7) 2 0
 first = record { sound = begun-sound 7; small = omega arith; below = omega arith; counts = inl (begun-count 7); new = begun-heard 7 0 }
 
-put-received : Receive (record { block = before; inbox = begun 7; block′ = amid; inbox′ = half; answer = record { number = 0; again = 0; missing = missing half } }) 0 (line putting)
+put-received : Receive (record { block = before; inbox = begun 7; block′ = amid; inbox′ = half; answer = record { number = 0; again = 0; missing = missing half; place = 0 } }) 0 (line putting)
 put-received = received putting before-sound (begun-sound 7) (omega arith) put-said (record { batch = sym (begun-batch 7); counts = inl (begun-count 7) }) (begun-heard 7 0) (put-done .0)
     (record { sound = amid-sound; room-kept = unfold before amid in refl; here = sym (put-done .1); others = amid-others })
 
-remove-received : Receive (record { block = amid; inbox = half; block′ = done; inbox′ = whole; answer = record { number = 0; again = 0; missing = missing whole } }) 0 (line removing)
+remove-received : Receive (record { block = amid; inbox = half; block′ = done; inbox′ = whole; answer = record { number = 0; again = 0; missing = missing whole; place = 0 } }) 0 (line removing)
 remove-received = received removing amid-sound (marked-sound first) (omega arith) remove-said (record { batch = sym (marked-batch first ∙ begun-batch 7); counts = inr (marked-count first) })
     (ap (λ n. eqb n 1) (marked-other first 1 (omega arith)) ∙ begun-heard 7 1) (remove-done .0)
     (record { sound = done-sound; room-kept = unfold amid done in refl; here = sym (remove-done .1); others = done-others })
@@ -133,7 +133,7 @@ module _ (b : List ℕ) (B : SoundBlock b) (v batch : ℕ) (lt : v < 16) (fits :
   unfolding legal kindLegal
   said = parse-line (nothing batch) refl (record { batch = fits; key = omega arith; value = omega arith })
 
-  quiet : Receive (record { block = b; inbox = begun batch; block′ = b; inbox′ = heard; answer = record { number = 0; again = 0; missing = missing heard } }) v (line (nothing batch))
+  quiet : Receive (record { block = b; inbox = begun batch; block′ = b; inbox′ = heard; answer = record { number = 0; again = 0; missing = missing heard; place = 0 } }) v (line (nothing batch))
   unfolding frameRule
   quiet = received (nothing batch) B (begun-sound batch) lt said (record { batch = sym (begun-batch batch); counts = inl (begun-count batch) }) (begun-heard batch 0)
       (stocked-supply (heap b) .enough) (record { sound = B; room-kept = refl; here = refl; others = λ w l ne. refl })

@@ -11,12 +11,12 @@ use native.Mathlib.Decide.{ℕ-discrete}
 use Rattle.model.specs.Supply.{short}
 use Rattle.model.specs.Heap.{version, supply}
 use Rattle.model.specs.Block.{heap, SoundBlock}
-use Rattle.model.specs.Frame.{Frame, parse}
+use Rattle.model.specs.Frame.{Frame, Reading, good, fault, read, parse}
 use Rattle.model.specs.Inbox.{batchOf, countOf, heardAt, SoundInbox, marked, missing, question, Complete}
 use Rattle.model.specs.Numbers.{NO_ROOM}
 use Rattle.model.specs.Calls.{fails, passes, Edited}
 use Rattle.model.specs.Link.{Missing, Heard, frameRule, Step, turnedAway, Takes, Says, Receive}
-use Rattle.model.proofs.Lines.{Legal, legal-exactly, parse-only}
+use Rattle.model.proofs.Lines.{Legal, legal-exactly, fault-least, good-parse, parse-only}
 use Rattle.model.proofs.Heard.{Markable, marked-count, marked-sound}
 
 -- the line's frame belongs to the inbox's batch, and its count does not differ
@@ -42,19 +42,19 @@ module _ (s : Step) (v : ℕ) where
   turned : {n : ℕ} {o : Option Frame} → turnedAway s (suc n) → Outcome s v o
   turned {n} u = away (λ z. let e : suc n ≡ 0 = sym (ap (λ (a : Heard). a .number) (u .0)) ∙ z in omega arith) (u .1) (u .2)
 
-  accepted : {n : ℕ} (y : List ℕ) → s .answer ≡ record { number = 0; again = n; missing = missing y } → s .inbox′ ≡ y → Accepted s n
+  accepted : {n : ℕ} (y : List ℕ) → s .answer ≡ record { number = 0; again = n; missing = missing y; place = 0 } → s .inbox′ ≡ y → Accepted s n
   accepted y e x = record { number = ap (λ (a : Heard). a .number) e; again = ap (λ (a : Heard). a .again) e; missing = ap (λ (a : Heard). a .missing) e ∙ ap missing (sym x) }
 
-  taken : (f : Frame) → Belongs (s .inbox) f → (heard : Bool) → heardAt (s .inbox) (f .index) ≡ heard → Takes s v f heard → Outcome s v (some f)
-  taken f B true e u = again f refl B e (accepted (s .inbox) (u .0) (u .2)) (u .1) (u .2)
-  taken f B false e (fails p u) = turned u
-  taken f B false e (passes p u) = new f refl B e (accepted (marked (s .inbox) (f .count) (f .index)) (u .0) (u .2)) p (u .1) (u .2)
+  taken : {o : Option Frame} (f : Frame) → o ≡ some f → Belongs (s .inbox) f → (heard : Bool) → heardAt (s .inbox) (f .index) ≡ heard → Takes s v f heard → Outcome s v o
+  taken f q B true e u = again f q B e (accepted (s .inbox) (u .0) (u .2)) (u .1) (u .2)
+  taken f q B false e (fails p u) = turned u
+  taken f q B false e (passes p u) = new f q B e (accepted (marked (s .inbox) (f .count) (f .index)) (u .0) (u .2)) p (u .1) (u .2)
 
-  says-outcome : (o : Option Frame) → Says s v o → Outcome s v o
-  says-outcome none u = turned u
-  says-outcome (some f) (fails p u) = turned u
-  says-outcome (some f) (passes p (fails q u)) = turned u
-  says-outcome (some f) (passes p (passes q T)) = taken f (record { batch = p; counts = q }) (heardAt (s .inbox) (f .index)) refl T
+  says-outcome : (line : List ℕ) (r : Reading) → read line ≡ r → Says s v r → Outcome s v (parse line)
+  says-outcome line (fault n p) e u = away (λ z. omega (arith, fault-least line n p e, sym (ap (λ (a : Heard). a .number) (u .0)) ∙ z)) (u .1) (u .2)
+  says-outcome line (good f) e (fails p u) = turned u
+  says-outcome line (good f) e (passes p (fails q u)) = turned u
+  says-outcome line (good f) e (passes p (passes q T)) = taken f (good-parse line f .1 e) (record { batch = p; counts = q }) (heardAt (s .inbox) (f .index)) refl T
 
   pub receive-outcome : (line : List ℕ) → Receive s v line → Outcome s v (parse line)
   receive-outcome line (fails p u) = turned u
@@ -62,7 +62,7 @@ module _ (s : Step) (v : ℕ) where
   receive-outcome line (passes a (passes c (fails p u))) = turned u
   receive-outcome line (passes a (passes c (passes d (fails p u)))) = turned u
   receive-outcome line (passes a (passes c (passes d (passes e (fails p u))))) = turned u
-  receive-outcome line (passes a (passes c (passes d (passes e (passes g T))))) = says-outcome (parse line) T
+  receive-outcome line (passes a (passes c (passes d (passes e (passes g T))))) = says-outcome line (read line) refl T
 
   -- a frame of the batch, on a sound block and inbox, is refused only for room
   pub belongs-only-room : (line : List ℕ) (f : Frame) → SoundBlock (s .block) → SoundInbox (s .inbox) → v < 16 → Receive s v line → parse line ≡ some f → Belongs (s .inbox) f
@@ -72,7 +72,7 @@ module _ (s : Step) (v : ℕ) where
   belongs-only-room line f B X lt (passes a (passes c (fails p u))) e W = absurd (p B)
   belongs-only-room line f B X lt (passes a (passes c (passes d (fails p u)))) e W = absurd (p X)
   belongs-only-room line f B X lt (passes a (passes c (passes d (passes g (fails p u))))) e W = absurd (p lt)
-  belongs-only-room line f B X lt (passes a (passes c (passes d (passes g (passes h T))))) e W = says (subst (Says s v) e T)
+  belongs-only-room line f B X lt (passes a (passes c (passes d (passes g (passes h T))))) e W = says (subst (Says s v) (good-parse line f .0 e) T)
     where
       number : {a : Heard} → s .answer ≡ a → s .answer .number ≡ a .number
       number q = ap (λ (a : Heard). a .number) q
@@ -82,7 +82,7 @@ module _ (s : Step) (v : ℕ) where
       takes false (fails p u) = inr (number (u .0))
       takes false (passes p u) = inl (number (u .0))
 
-      says : Says s v (some f) → (s .answer .number ≡ 0) ⊎ (s .answer .number ≡ NO_ROOM)
+      says : Says s v (good f) → (s .answer .number ≡ 0) ⊎ (s .answer .number ≡ NO_ROOM)
       says (fails p u) = absurd (p (W .batch))
       says (passes p (fails q u)) = absurd (q (W .counts))
       says (passes p (passes q T)) = takes (heardAt (s .inbox) (f .index)) T

@@ -14,16 +14,18 @@ use Rattle.model.specs.Supply.{short}
 use Rattle.model.specs.Rules.{remove}
 use Rattle.model.specs.Heap.{version, free, supply}
 use Rattle.model.specs.Block.{room, heap, Shaped, SoundBlock}
-use Rattle.model.specs.Frame.{Frame, parse}
+use Rattle.model.specs.Frame.{Frame, Reading, good, fault, read, parse}
 use Rattle.model.specs.Inbox.{heardAt, SoundInbox, begun}
 use Rattle.model.specs.Numbers.{SHAPE, DAMAGED, VERSION, RULE, SUM, NO_ROOM}
 use Rattle.model.specs.Calls.{fails, passes, Answer, finding, Versions, Edit, Edits, Fitting, inserting, removing, copying, clearing, uniting, lessening}
 use Rattle.model.specs.Link.{Begin, Heard, frameRule, Step, Takes, Says, Receive}
+use Rattle.model.proofs.Tests.{not-true, not-false}
 use Rattle.model.proofs.Sorts.{ordered-sorted}
 use Rattle.model.proofs.Fits.{Exceeds, unfit-means, means-unfit}
 use Rattle.model.proofs.Versions.{version-ordered}
 use Rattle.model.proofs.Room.{insert-room, remove-room}
 use Rattle.model.proofs.Growing.{stocked-supply}
+use Rattle.model.proofs.Lines.{fault-least, good-parse}
 use Rattle.model.proofs.Receiving.{Belongs, Outcome, away, again, new, receive-outcome, belongs-only-room}
 
 -- the edits that are calls
@@ -56,14 +58,6 @@ pub record Exactly (b : List ℕ) (e : Edit) (n : ℕ) : Type 0 where
   pub sum : (n ≡ SUM) ↔ (SoundBlock b × Versions (e .versions) × (e .legal ≡ true) × (e .fits ≡ false))
   -- a make of the rule finds no free node
   pub no-room : (n ≡ NO_ROOM) ↔ (SoundBlock b × Versions (e .versions) × (e .legal ≡ true) × (e .fits ≡ true) × (short (e .rule (supply (heap b)) .1) ≡ true))
-
-not-true : (t : Bool) → (t ≡ true → ⊥) → t ≡ false
-not-true true f = absurd (f refl)
-not-true false f = refl
-
-not-false : (t : Bool) → (t ≡ false → ⊥) → t ≡ true
-not-false true f = refl
-not-false false f = absurd (f refl)
 
 -- a number that is given, and one that is not
 module _ {a : Answer} {X : Type 0} {k : ℕ} where
@@ -234,11 +228,11 @@ module _ (s : Step) (v : ℕ) (line : List ℕ) where
       record { block = B; inbox = X; known = lt; frame = f; said = e; belongs = W; new = h; short = not-false (short (frameRule f (version (heap (s .block)) v) (supply (heap (s .block))) .1)) p }
   takes-crowded f B X lt e W false h (passes p u) z = absurd (no (u .0) (omega arith) z)
 
-  says-crowded : SoundBlock (s .block) → SoundInbox (s .inbox) → v < 16 → (o : Option Frame) → parse line ≡ o → Says s v o → s .answer .number ≡ NO_ROOM → Crowded s v line
-  says-crowded B X lt none e u z = absurd (no (u .0) (omega arith) z)
-  says-crowded B X lt (some f) e (fails p u) z = absurd (no (u .0) (omega arith) z)
-  says-crowded B X lt (some f) e (passes p (fails q u)) z = absurd (no (u .0) (omega arith) z)
-  says-crowded B X lt (some f) e (passes p (passes q T)) z = takes-crowded f B X lt e (record { batch = p; counts = q }) (heardAt (s .inbox) (f .index)) refl T z
+  says-crowded : SoundBlock (s .block) → SoundInbox (s .inbox) → v < 16 → (r : Reading) → read line ≡ r → Says s v r → s .answer .number ≡ NO_ROOM → Crowded s v line
+  says-crowded B X lt (fault n p) e u z = absurd (no (u .0) (λ five. omega (arith, five, fault-least line n p e)) z)
+  says-crowded B X lt (good f) e (fails p u) z = absurd (no (u .0) (omega arith) z)
+  says-crowded B X lt (good f) e (passes p (fails q u)) z = absurd (no (u .0) (omega arith) z)
+  says-crowded B X lt (good f) e (passes p (passes q T)) z = takes-crowded f B X lt (good-parse line f .1 e) (record { batch = p; counts = q }) (heardAt (s .inbox) (f .index)) refl T z
 
   crowded : Receive s v line → s .answer .number ≡ NO_ROOM → Crowded s v line
   crowded (fails p u) z = absurd (no (u .0) (omega arith) z)
@@ -246,7 +240,7 @@ module _ (s : Step) (v : ℕ) (line : List ℕ) where
   crowded (passes a (passes c (fails p u))) z = absurd (no (u .0) (omega arith) z)
   crowded (passes a (passes c (passes d (fails p u)))) z = absurd (no (u .0) (omega arith) z)
   crowded (passes a (passes c (passes d (passes e (fails p u))))) z = absurd (no (u .0) (omega arith) z)
-  crowded (passes a (passes c (passes d (passes e (passes g T))))) z = says-crowded d e g (parse line) refl T z
+  crowded (passes a (passes c (passes d (passes e (passes g T))))) z = says-crowded d e g (read line) refl T z
 
   pub receive-no-room : Receive s v line → (s .answer .number ≡ NO_ROOM) ↔ Crowded s v line
   receive-no-room R = (crowded R, back)

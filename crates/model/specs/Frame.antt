@@ -7,6 +7,7 @@ use lib.ListN.{length, getD, take, drop}
 use lib.Dec.{eqb, ltb, leb}
 use Rattle.model.specs.Tree.{Tree}
 use Rattle.model.specs.Delta.{Change, delta}
+use Rattle.model.specs.Numbers.{FRAME, DIGIT, KIND, RANGE}
 
 -- one reading after another; what is no number makes the whole none
 infixr 10 _>>=_
@@ -80,14 +81,33 @@ fields cs = do
   value ← field cs 26 8
   some (record { batch = batch; index = index; count = count; kind = kind; key = key; value = value })
 
--- what a line says; all else is FRAME
-unfoldable pub parse : List ℕ → Option Frame
-parse cs = elim (eqb (length cs) 35 && eqb (getD cs 34 0) 10) [
-  | true ↦ do
-    f ← fields cs
-    elim (legal f) [ true ↦ some f | false ↦ none ]
-  | false ↦ none
+-- what reading a line gives: its frame, or the number of what is wrong with it and the place of a bad digit, which is 0 beside every other number
+pub data Reading : Type 0 where
+  good : Frame → Reading
+  fault : (number place : ℕ) → Reading
+
+-- the place of the first byte that is no digit
+unfoldable pub firstBad : List ℕ → ℕ
+firstBad [] = 0
+firstBad (c ∷ cs) = elim (value c) [ none ↦ 0 | some d ↦ suc (firstBad cs) ]
+
+-- a kind above 2 is KIND, any other field rule broken is RANGE
+unfoldable pub judged : Frame → Reading
+judged f = elim (leb (f .kind) 2) [
+  | true ↦ elim (legal f) [ true ↦ good f | false ↦ fault RANGE 0 ]
+  | false ↦ fault KIND 0
 ]
+
+-- not 35 bytes or no closing newline is FRAME, a bad digit is DIGIT and its place, the first one counting; then the fields are judged
+unfoldable pub read : List ℕ → Reading
+read cs = elim (eqb (length cs) 35 && eqb (getD cs 34 0) 10) [
+  | true ↦ elim (fields cs) [ some f ↦ judged f | none ↦ fault DIGIT (firstBad cs) ]
+  | false ↦ fault FRAME 0
+]
+
+-- the frame of a line with nothing wrong
+unfoldable pub parse : List ℕ → Option Frame
+parse cs = elim (read cs) [ good f ↦ some f | fault n p ↦ none ]
 
 -- the frame of one change among `count`
 unfoldable pub frameOf : (batch count index : ℕ) → Change → Frame

@@ -3,7 +3,6 @@ use mathlib.Core.Path.{_≡_}
 use mathlib.Core.Logic.{_⊎_}
 use Prim.Native.Nat.{ℕ, zero, suc, _<_}
 use mathlib.Core.Bool.{Bool, true, false}
-use mathlib.Core.Option.{Option, none, some}
 use mathlib.Core.List.{List}
 use lib.ListN.{length}
 use Rattle.model.specs.Tree.{Tree}
@@ -11,15 +10,15 @@ use Rattle.model.specs.Supply.{Make, done, short}
 use Rattle.model.specs.Rules.{insert, remove}
 use Rattle.model.specs.Heap.{version, supply}
 use Rattle.model.specs.Block.{heap, Shaped, SoundBlock}
-use Rattle.model.specs.Frame.{Frame, parse}
+use Rattle.model.specs.Frame.{Frame, Reading, good, fault, read}
 use Rattle.model.specs.Inbox.{batchOf, countOf, heardAt, SoundInbox, begun, marked, missing, question}
-use Rattle.model.specs.Numbers.{SHAPE, DAMAGED, VERSION, NO_ROOM, FRAME, BATCH, COUNT}
+use Rattle.model.specs.Numbers.{SHAPE, DAMAGED, VERSION, NO_ROOM, BATCH, COUNT}
 use Rattle.model.specs.Calls.{Check, Edited}
 
--- parse gives FRAME, or the six fields
-abbrev pub Parse : (said : Option Frame) (number : ℕ) (fields : Frame) → Type 0
-Parse none number fields = (number ≡ FRAME) × (fields ≡ record { batch = 0; index = 0; count = 0; kind = 0; key = 0; value = 0 })
-Parse (some f) number fields = (number ≡ 0) × (fields ≡ f)
+-- parse gives what is wrong with the line and the place of a bad digit, or the six fields
+abbrev pub Parse : (said : Reading) (number : ℕ) (fields : Frame) (place : ℕ) → Type 0
+Parse (fault n p) number fields place = (number ≡ n) × (fields ≡ record { batch = 0; index = 0; count = 0; kind = 0; key = 0; value = 0 }) × (place ≡ p)
+Parse (good f) number fields place = (number ≡ 0) × (fields ≡ f) × (place ≡ 0)
 
 -- the checks of an inbox; n is 0 where they pass
 abbrev pub CheckedInbox : (x : List ℕ) (n : ℕ) → Type 0
@@ -34,11 +33,12 @@ abbrev pub Missing : (x : List ℕ) (number missing : ℕ) → Type 0
 Missing x number missing =
     Check (length x ≡ 130) ((number ≡ SHAPE) × (missing ≡ 0)) (Check (SoundInbox x) ((number ≡ DAMAGED) × (missing ≡ 0)) ((number ≡ 0) × (missing ≡ question x)))
 
--- what receive answers: its number, 1 for a repeat, and how many are missing
+-- what receive answers: its number, 1 for a repeat, how many are missing, and the place of a bad digit
 pub record Heard : Type 0 where
   pub number : ℕ
   pub again : ℕ
   pub missing : ℕ
+  pub place : ℕ
 
 -- the edit of a frame
 unfoldable pub frameRule : Frame → Tree → Make Tree
@@ -61,21 +61,21 @@ unchanged s a = (s .answer ≡ a) × (s .block′ ≡ s .block) × (s .inbox′ 
 
 -- a refusal returns its number and zeros
 abbrev pub turnedAway : Step → ℕ → Type 0
-turnedAway s n = unchanged s (record { number = n; again = 0; missing = 0 })
+turnedAway s n = unchanged s (record { number = n; again = 0; missing = 0; place = 0 })
 
 -- an index already heard changes nothing; else the edit is done, if it finds room, and the index is marked
 abbrev pub Takes : Step → (v : ℕ) → Frame → (heard : Bool) → Type 0
-Takes s v f true = unchanged s (record { number = 0; again = 1; missing = missing (s .inbox) })
+Takes s v f true = unchanged s (record { number = 0; again = 1; missing = missing (s .inbox); place = 0 })
 Takes s v f false =
     Check (short (frameRule f (version (heap (s .block)) v) (supply (heap (s .block))) .1) ≡ false) (turnedAway s NO_ROOM)
-    ((s .answer ≡ record { number = 0; again = 0; missing = missing (marked (s .inbox) (f .count) (f .index)) })
+    ((s .answer ≡ record { number = 0; again = 0; missing = missing (marked (s .inbox) (f .count) (f .index)); place = 0 })
     × Edited (s .block) (s .block′) v (frameRule f (version (heap (s .block)) v) (supply (heap (s .block))) .0)
     × (s .inbox′ ≡ marked (s .inbox) (f .count) (f .index)))
 
--- a line that says nothing is malformed; else batch and count are checked
-abbrev pub Says : Step → (v : ℕ) → Option Frame → Type 0
-Says s v none = turnedAway s FRAME
-Says s v (some f) =
+-- a line with a fault is refused with that number, and the place of a bad digit; else batch and count are checked
+abbrev pub Says : Step → (v : ℕ) → Reading → Type 0
+Says s v (fault n p) = unchanged s (record { number = n; again = 0; missing = 0; place = p })
+Says s v (good f) =
     Check (f .batch ≡ batchOf (s .inbox)) (turnedAway s BATCH)
     (Check ((countOf (s .inbox) ≡ 0) ⊎ (countOf (s .inbox) ≡ f .count)) (turnedAway s COUNT) (Takes s v f (heardAt (s .inbox) (f .index))))
 
@@ -86,4 +86,4 @@ Receive s v line =
     (Check (length (s .inbox) ≡ 130) (turnedAway s SHAPE)
     (Check (SoundBlock (s .block)) (turnedAway s DAMAGED)
     (Check (SoundInbox (s .inbox)) (turnedAway s DAMAGED)
-    (Check (v < 16) (turnedAway s VERSION) (Says s v (parse line))))))
+    (Check (v < 16) (turnedAway s VERSION) (Says s v (read line))))))

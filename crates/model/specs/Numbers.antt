@@ -25,7 +25,7 @@ NO_ROOM = 5
 abbrev pub TOO_DEEP : ℕ
 TOO_DEEP = 6
 
--- line malformed
+-- a line is not 35 bytes or has no closing newline
 abbrev pub FRAME : ℕ
 FRAME = 7
 
@@ -36,6 +36,18 @@ BATCH = 8
 -- inbox count not zero and unlike the frame's
 abbrev pub COUNT : ℕ
 COUNT = 9
+
+-- a byte of a line's 34 is no digit
+abbrev pub DIGIT : ℕ
+DIGIT = 10
+
+-- a line's kind is above 2
+abbrev pub KIND : ℕ
+KIND = 11
+
+-- any other field rule of a line is broken
+abbrev pub RANGE : ℕ
+RANGE = 12
 
 -- a sum of union rule 4 is above 4,294,967,295
 abbrev pub SUM : ℕ

@@ -9,7 +9,7 @@ use lib.Seq.{drop-cons}
 use borrow.Author.Tests.{eq-eqb, ne-eqb}
 use lib.Dec.{eqb}
 use native.Mathlib.Omega.{arith}
-use Rattle.model.specs.Frame.{parse}
+use Rattle.model.specs.Frame.{read}
 use Rattle.receive.specs.Lines.{linesOf, restOf, Keeps, State, Fed, FedSome, HearsSome, Runs}
 use Rattle.receive.proofs.Keeping.{first-36, keeps-none}
 use Rattle.receive.proofs.Hearing.{runs-none, runs-then, runs-says}
@@ -42,7 +42,7 @@ going-line : {s t u : State} {lines : List (List ℕ)} {rest bytes : List ℕ} {
 unfolding linesOf restOf
 going-line {u = u} {len = len} {byte = byte} G K e z one =
     let whole = G .held ++ byte ∷ [] in
-    let said : parse (take len (u .line)) ≡ parse whole = ap parse (K (G .held) (G .keeps) .bytes) ∙ first-36 whole in
+    let said : read (take len (u .line)) ≡ read whole = ap read (K (G .held) (G .keeps) .bytes) ∙ first-36 whole in
     record {
       held = [];
       keeps = rw z (keeps-none whole (K (G .held) (G .keeps)));

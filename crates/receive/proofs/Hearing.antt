@@ -7,10 +7,10 @@ use mathlib.Core.Option.{Option, none, some}
 use mathlib.Core.List.{List, [], _∷_, _++_}
 use lib.ListN.{length}
 use native.Mathlib.Omega.{arith}
-use Rattle.model.specs.Frame.{Frame, parse}
-use Rattle.model.specs.Inbox.{begun}
+use Rattle.model.specs.Frame.{Frame, Reading, good, fault, read, parse}
 use Rattle.model.specs.Link.{Parse, Begin, Heard, Receive}
 use Rattle.model.specs.Replica.{Nothing, Hearing, still, then}
+use Rattle.model.proofs.Lines.{fault-least, good-parse}
 use Rattle.model.proofs.Refusals.{begin-begins}
 use Rattle.receive.specs.Lines.{Runs, idle, waits, begins, hears}
 
@@ -35,26 +35,30 @@ pub runs-hears : {b x c y : List ℕ} {g : Bool} (line : List ℕ) (a : Heard) �
 runs-hears line a e r = rw e (hears (then a refl r still))
 
 -- before that, a malformed line
-pub runs-waits : {b x : List ℕ} {g : Bool} {n : ℕ} (f : Frame) (line : List ℕ) → g ≡ false → Parse (parse line) n f → n ≢ 0 → Runs b x g (line ∷ []) b x false
-runs-waits {n = n} f line e P ne = rw e (waits (said (parse line) P) idle)
+pub runs-waits : {b x : List ℕ} {g : Bool} {n : ℕ} (f : Frame) (p : ℕ) (line : List ℕ) → g ≡ false → Parse (read line) n f p → n ≢ 0 → Runs b x g (line ∷ []) b x false
+runs-waits {n = n} f p line e P ne = rw e (waits (said (parse line) refl) idle)
   where
-    said : (o : Option Frame) → Parse o n f → o ≡ none
-    said none P = refl
-    said (some h) P = absurd (ne (P .0))
+    said : (o : Option Frame) → parse line ≡ o → parse line ≡ none
+    said none q = q
+    said (some h) q = absurd (ne (subst (λ (r : Reading). Parse r n f p) (good-parse line h .0 q) P .0))
 
 -- and the first that is well formed
-pub runs-begins : {b x z c y : List ℕ} {g : Bool} {n m : ℕ} (f : Frame) (line : List ℕ) (a : Heard) → g ≡ false → Parse (parse line) n f → n ≡ 0 → length x ≡ 130 → Begin x z (f .batch) m → Receive (record { block = b; inbox = z; block′ = c; inbox′ = y; answer = a }) 0 line → Runs b x g (line ∷ []) c y true
-runs-begins {b = b} {x = x} {z = z} {c = c} {y = y} {n = n} {m = m} f line a e P zero-n long B r = rw e (begins f (said (parse line) P) (then a refl (subst (λ (w : List ℕ). Receive (record { block = b; inbox = w; block′ = c; inbox′ = y; answer = a }) 0 line) (begin-begins (f .batch) long B .1) r) still))
+pub runs-begins : {b x z c y : List ℕ} {g : Bool} {n m : ℕ} (f : Frame) (p : ℕ) (line : List ℕ) (a : Heard) → g ≡ false → Parse (read line) n f p → n ≡ 0 → length x ≡ 130 → Begin x z (f .batch) m → Receive (record { block = b; inbox = z; block′ = c; inbox′ = y; answer = a }) 0 line → Runs b x g (line ∷ []) c y true
+runs-begins {b = b} {x = x} {z = z} {c = c} {y = y} {n = n} {m = m} f p line a e P zero-n long B r = rw e (begins f (said (read line) refl P) (then a refl (subst (λ (w : List ℕ). Receive (record { block = b; inbox = w; block′ = c; inbox′ = y; answer = a }) 0 line) (begin-begins (f .batch) long B .1) r) still))
   where
-    said : (o : Option Frame) → Parse o n f → o ≡ some f
-    said none P = absurd (let q = P .0 in omega (arith, q, zero-n))
-    said (some h) P = ap some (sym (P .1))
+    said : (o : Reading) → read line ≡ o → Parse o n f p → parse line ≡ some f
+    said (fault k q) d P = absurd (omega (arith, fault-least line k q d, P .0, zero-n))
+    said (good h) d P = good-parse line h .1 d ∙ ap some (sym (P .1))
 
 -- what is heard of a line is what it says
-hearing-says : {b x c y : List ℕ} (l m : List ℕ) → parse l ≡ parse m → Hearing Nothing 0 b x (l ∷ []) c y → Hearing Nothing 0 b x (m ∷ []) c y
+hearing-says : {b x c y : List ℕ} (l m : List ℕ) → read l ≡ read m → Hearing Nothing 0 b x (l ∷ []) c y → Hearing Nothing 0 b x (m ∷ []) c y
 hearing-says {b = b} {x = x} {c = c} {y = y} l m e (then {a = d} a n r still) = then {b = b} {x = x} {a = d} {b′ = c} {x′ = y} {line = m} a n (rw (sym e) r) still
 
-pub runs-says : {b x c y : List ℕ} {g h : Bool} (l m : List ℕ) → parse l ≡ parse m → Runs b x g (l ∷ []) c y h → Runs b x g (m ∷ []) c y h
+says-parse : (l m : List ℕ) → read l ≡ read m → parse m ≡ parse l
+unfolding parse
+says-parse l m e = rw (sym e, parse)
+
+pub runs-says : {b x c y : List ℕ} {g h : Bool} (l m : List ℕ) → read l ≡ read m → Runs b x g (l ∷ []) c y h → Runs b x g (m ∷ []) c y h
 runs-says l m e (hears one) = hears (hearing-says l m e one)
-runs-says l m e (waits p idle) = waits (sym e ∙ p) idle
-runs-says l m e (begins f p one) = begins f (sym e ∙ p) (hearing-says l m e one)
+runs-says l m e (waits p idle) = waits (says-parse l m e ∙ p) idle
+runs-says l m e (begins f p one) = begins f (says-parse l m e ∙ p) (hearing-says l m e one)

@@ -1,34 +1,26 @@
 -- The buffer of 36 bytes: what is kept of a line says what the line says.
 use mathlib.Core.Path.{_≡_, refl, ap, sym, _∙_}
 use Prim.Native.Nat.{ℕ, suc, _+_, _<_, _≤_}
-use mathlib.Core.Option.{Option, none, some}
 use mathlib.Core.List.{List, [], _∷_, _++_}
 use lib.ListN.{length, take, set, length-set, length-take, length-append}
 use lib.Seq.{take-all, take-append-le, take-suc-set}
 use native.Mathlib.Omega.{arith}
 use native.Mathlib.Decide.{decLe}
-use Rattle.model.specs.Frame.{Frame, parse, line}
-use Rattle.model.proofs.Lines.{parse-only, line-length}
+use Rattle.model.specs.Frame.{fault, read}
+use Rattle.model.specs.Numbers.{FRAME}
+use Rattle.model.proofs.Lines.{read-open}
 use Rattle.receive.specs.Lines.{Keeps}
 
--- a well-formed line has 35 bytes
-well-formed-long : (l : List ℕ) (f : Frame) → parse l ≡ some f → length l ≡ 35
-well-formed-long l f e = ap (λ (m : List ℕ). length m) (parse-only l f e .0) ∙ line-length f
-
--- one of any other length says nothing
-says-nothing : (l : List ℕ) → (length l ≡ 35 → ⊥) → parse l ≡ none
-says-nothing l n = go (parse l) refl
-  where
-    go : (o : Option Frame) → parse l ≡ o → parse l ≡ none
-    go none e = e
-    go (some f) e = absurd (n (well-formed-long l f e))
+-- one of any other length than 35 says nothing
+says-nothing : (l : List ℕ) → (length l ≡ 35 → ⊥) → read l ≡ fault FRAME 0
+says-nothing l n = read-open l (λ C. n (C .long))
 
 -- a line longer than 36 is malformed, and so are its first 36 bytes
-pub first-36 : (l : List ℕ) → parse (take 36 l) ≡ parse l
+pub first-36 : (l : List ℕ) → read (take 36 l) ≡ read l
 first-36 l = go (decLe (length l) 36)
   where
-    go : Dec (length l ≤ 36) → parse (take 36 l) ≡ parse l
-    go (yes h) = ap parse (take-all 36 l h)
+    go : Dec (length l ≤ 36) → read (take 36 l) ≡ read l
+    go (yes h) = ap read (take-all 36 l h)
     go (no h) = says-nothing (take 36 l) (λ e. omega (arith, e, length-take 36 l)) ∙ sym (says-nothing l (λ e. omega (arith, e)))
 
 -- nothing is held

@@ -1,6 +1,6 @@
 // What the switch's host calls: one call each, and nothing else. Each answers the number and sets its fields through the pointers.
 ghost use Rattle.model.specs.Calls.{Fresh, Lookup, Size, Held, HeldBetween, Edits, inserting, removing, copying, clearing, uniting, lessening, Checked};
-ghost use Rattle.model.specs.Frame.{parse};
+ghost use Rattle.model.specs.Frame.{read};
 ghost use Rattle.model.specs.Lists.{Lists, listed, framed};
 ghost use Rattle.model.specs.Link.{Parse, Begin, Missing, Receive};
 ghost use Rattle.ledger.specs.Ledger as totals;
@@ -206,7 +206,7 @@ pub extern "C" fn ksk_frames(
     a.number
 }
 
-// The fields of one line.
+// The fields of one line, or what is wrong with it.
 #[no_mangle]
 pub extern "C" fn ksk_parse(
     line: &[u8],
@@ -216,8 +216,9 @@ pub extern "C" fn ksk_parse(
     kind: &mut u32,
     key: &mut u32,
     value: &mut u32,
+    place: &mut u32,
 ) -> u32
-    ensures { λ r. ⌜ Parse (parse (now (line .entry))) r (record { batch = now (batch .exit); index = now (index .exit); count = now (count .exit); kind = now (kind .exit); key = now (key .exit); value = now (value .exit) }) ⌝ }
+    ensures { λ r. ⌜ Parse (read (now (line .entry))) r (record { batch = now (batch .exit); index = now (index .exit); count = now (count .exit); kind = now (kind .exit); key = now (key .exit); value = now (value .exit) }) (now (place .exit)) ⌝ }
 {
     let a = link::parse(line);
     let f = a.fields;
@@ -227,6 +228,7 @@ pub extern "C" fn ksk_parse(
     *kind = f.kind;
     *key = f.key;
     *value = f.value;
+    *place = a.place;
     a.number
 }
 
@@ -247,12 +249,14 @@ pub extern "C" fn ksk_receive(
     line: &[u8],
     repeat: &mut u32,
     missing: &mut u32,
+    place: &mut u32,
 ) -> u32
-    ensures { λ r. ⌜ Receive (record { block = now (block .entry); inbox = now (inbox .entry); block′ = now (block .exit); inbox′ = now (inbox .exit); answer = record { number = r; again = now (repeat .exit); missing = now (missing .exit) } }) version (now (line .entry)) ⌝ }
+    ensures { λ r. ⌜ Receive (record { block = now (block .entry); inbox = now (inbox .entry); block′ = now (block .exit); inbox′ = now (inbox .exit); answer = record { number = r; again = now (repeat .exit); missing = now (missing .exit); place = now (place .exit) } }) version (now (line .entry)) ⌝ }
 {
     let a = link::receive(block, inbox, version, line);
     *repeat = a.again;
     *missing = a.missing;
+    *place = a.place;
     a.number
 }
 

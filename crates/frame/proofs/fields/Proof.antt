@@ -1,141 +1,177 @@
--- The fields are read in the line's order, and the first that is no number makes the whole none.
-use mathlib.Core.Path.{_≡_}
+-- The fields are read in the line's order, and the first that is no number makes the whole none and has the line's first bad digit.
+use mathlib.Core.Path.{_≡_, sym, _∙_}
+use Prim.Native.Nat.{_≤_}
 use mathlib.Core.Option.{some}
 use borrow.Author.Needs.{needs}
-use Rattle.model.specs.Frame.{field}
-use Rattle.frame.proofs.Parsing.{says, no-batch, no-index, no-count, no-kind, no-key, no-value, all-read}
+use native.Mathlib.Omega.{arith}
+use Rattle.model.specs.Frame.{field, firstBad}
+use Rattle.model.proofs.Faults.{field-good}
+use Rattle.frame.proofs.Parsing.{says, field-is, field-not, no-batch, no-index, no-count, no-kind, no-key, no-value, all-read, all-said}
 use Rattle.frame.proofs.fields.Statement.{statement}
 use Rattle.frame.proofs.fields.Tie as tie
 
 -- from the place where a field is known to the one before
-abbrev entry : tie.After-batch → tie.Start
+abbrev entry : tie.After-n → tie.Start
 entry c = c .before .before .before .before
 
-abbrev to-batch : tie.After-index → tie.After-batch
+abbrev to-batch : tie.After-n2 → tie.After-n
 to-batch c = c .before .before .before .before
 
-abbrev to-index : tie.After-count → tie.After-index
+abbrev to-index : tie.After-n3 → tie.After-n2
 to-index c = c .before .before .before .before
 
-abbrev to-count : tie.After-kind → tie.After-count
+abbrev to-count : tie.After-n4 → tie.After-n3
 to-count c = c .before .before .before .before
 
-abbrev to-kind : tie.After-key → tie.After-kind
+abbrev to-kind : tie.After-n5 → tie.After-n4
 to-kind c = c .before .before .before .before
 
-abbrev to-key : tie.After-value → tie.After-key
+abbrev to-key : tie.After-n6 → tie.After-n5
 to-key c = c .before .before .before .before
 
--- and what each field says
-batch-is : (c : tie.After-batch) → some (c .batch .given .0 .0) ≡ field ((entry c) .args .line .now) 0 8
-batch-is c = says (c .before .before .read-hex .ensures) (c .batch .given .1)
+-- what each field says, and that it has no bad digit
+batch-is : (c : tie.After-n) → some (c .n .given .0 .0) ≡ field ((entry c) .args .line .now) 0 8
+batch-is c = field-is _ 0 8 (says (c .before .before .read-hex .ensures) (c .n .given .1))
 
-index-is : (c : tie.After-index) → some (c .index .given .0 .0) ≡ field ((entry (to-batch c)) .args .line .now) 8 4
-index-is c = says (c .before .before .read-hex2 .ensures) (c .index .given .1)
+index-is : (c : tie.After-n2) → some (c .n2 .given .0 .0) ≡ field ((entry (to-batch c)) .args .line .now) 8 4
+index-is c = field-is _ 8 4 (says (c .before .before .read-hex2 .ensures) (c .n2 .given .1))
 
-count-is : (c : tie.After-count) → some (c .count .given .0 .0) ≡ field ((entry (to-batch (to-index c))) .args .line .now) 12 4
-count-is c = says (c .before .before .read-hex3 .ensures) (c .count .given .1)
+count-is : (c : tie.After-n3) → some (c .n3 .given .0 .0) ≡ field ((entry (to-batch (to-index c))) .args .line .now) 12 4
+count-is c = field-is _ 12 4 (says (c .before .before .read-hex3 .ensures) (c .n3 .given .1))
 
-kind-is : (c : tie.After-kind) → some (c .kind .given .0 .0) ≡ field ((entry (to-batch (to-index (to-count c)))) .args .line .now) 16 2
-kind-is c = says (c .before .before .read-hex4 .ensures) (c .kind .given .1)
+kind-is : (c : tie.After-n4) → some (c .n4 .given .0 .0) ≡ field ((entry (to-batch (to-index (to-count c)))) .args .line .now) 16 2
+kind-is c = field-is _ 16 2 (says (c .before .before .read-hex4 .ensures) (c .n4 .given .1))
 
-key-is : (c : tie.After-key) → some (c .key .given .0 .0) ≡ field ((entry (to-batch (to-index (to-count (to-kind c))))) .args .line .now) 18 8
-key-is c = says (c .before .before .read-hex5 .ensures) (c .key .given .1)
+key-is : (c : tie.After-n5) → some (c .n5 .given .0 .0) ≡ field ((entry (to-batch (to-index (to-count (to-kind c))))) .args .line .now) 18 8
+key-is c = field-is _ 18 8 (says (c .before .before .read-hex5 .ensures) (c .n5 .given .1))
 
-value-is : (c : tie.After-value) → some (c .value .given .0 .0) ≡ field ((entry (to-batch (to-index (to-count (to-kind (to-key c)))))) .args .line .now) 26 8
-value-is c = says (c .before .before .read-hex6 .ensures) (c .value .given .1)
+value-is : (c : tie.After-n6) → some (c .n6 .given .0 .0) ≡ field ((entry (to-batch (to-index (to-count (to-kind (to-key c)))))) .args .line .now) 26 8
+value-is c = field-is _ 26 8 (says (c .before .before .read-hex6 .ensures) (c .n6 .given .1))
+
+batch-good : (c : tie.After-n) → 8 ≤ firstBad ((entry c) .args .line .now)
+batch-good c = field-good _ 0 8 (omega arith) (omega (arith, (entry c) .pre)) (sym (batch-is c))
+
+index-good : (c : tie.After-n2) → 12 ≤ firstBad ((entry (to-batch c)) .args .line .now)
+index-good c = field-good _ 8 4 (batch-good (to-batch c)) (omega (arith, (entry (to-batch c)) .pre)) (sym (index-is c))
+
+count-good : (c : tie.After-n3) → 16 ≤ firstBad ((entry (to-batch (to-index c))) .args .line .now)
+count-good c = field-good _ 12 4 (index-good (to-index c)) (omega (arith, (entry (to-batch (to-index c))) .pre)) (sym (count-is c))
+
+kind-good : (c : tie.After-n4) → 18 ≤ firstBad ((entry (to-batch (to-index (to-count c)))) .args .line .now)
+kind-good c = field-good _ 16 2 (count-good (to-count c)) (omega (arith, (entry (to-batch (to-index (to-count c)))) .pre)) (sym (kind-is c))
+
+key-good : (c : tie.After-n5) → 26 ≤ firstBad ((entry (to-batch (to-index (to-count (to-kind c))))) .args .line .now)
+key-good c = field-good _ 18 8 (kind-good (to-kind c)) (omega (arith, (entry (to-batch (to-index (to-count (to-kind c))))) .pre)) (sym (key-is c))
 
 read-hex-requires : tie.Need-read-hex-requires
 read-hex-requires c κs = search needs
 
-enum-known-batch : tie.Need-enum-known-batch
-enum-known-batch c = search needs
+enum-known-n : tie.Need-enum-known-n
+enum-known-n c = search needs
 
-enum-told : tie.Need-enum-told
-enum-told c = search needs
+enum-known-place : tie.Need-enum-known-place
+enum-known-place c = search needs
+
+bad-requires : tie.Need-bad-requires
+bad-requires c κs = search needs
 
 returns : tie.Need-returns
-returns c = no-batch _ (says (c .before .before .read-hex .ensures) (c .enum-told .given .1))
+returns c = c .bad .ensures ∙ field-not _ 0 8 (says (c .before .before .before .before .read-hex .ensures) (c .before .before .place .given .1)) (no-batch _)
 
 read-hex-requires-2 : tie.Need-read-hex-requires-2
-read-hex-requires-2 c κs = search needs
+read-hex-requires-2 c κs = (omega arith, omega arith, omega arith, batch-good (c .before))
 
-enum-known-index : tie.Need-enum-known-index
-enum-known-index c = search needs
+enum-known-n-2 : tie.Need-enum-known-n-2
+enum-known-n-2 c = search needs
 
-enum-told-2 : tie.Need-enum-told-2
-enum-told-2 c = search needs
+enum-known-place-2 : tie.Need-enum-known-place-2
+enum-known-place-2 c = search needs
+
+bad-requires-2 : tie.Need-bad-requires-2
+bad-requires-2 c κs = search needs
 
 returns-2 : tie.Need-returns-2
 returns-2 c =
-    let b = c .before .before .before .before in
-    no-index _ (batch-is b) (says (c .before .before .read-hex2 .ensures) (c .enum-told2 .given .1))
+    let b = c .before .before .before .before .before .before in
+    c .bad2 .ensures ∙ field-not _ 8 4 (says (c .before .before .before .before .read-hex2 .ensures) (c .before .before .place2 .given .1)) (no-index _ (batch-is b))
 
 read-hex-requires-3 : tie.Need-read-hex-requires-3
-read-hex-requires-3 c κs = search needs
+read-hex-requires-3 c κs = (omega arith, omega arith, omega arith, index-good (c .before))
 
-enum-known-count : tie.Need-enum-known-count
-enum-known-count c = search needs
+enum-known-n-3 : tie.Need-enum-known-n-3
+enum-known-n-3 c = search needs
 
-enum-told-3 : tie.Need-enum-told-3
-enum-told-3 c = search needs
+enum-known-place-3 : tie.Need-enum-known-place-3
+enum-known-place-3 c = search needs
+
+bad-requires-3 : tie.Need-bad-requires-3
+bad-requires-3 c κs = search needs
 
 returns-3 : tie.Need-returns-3
 returns-3 c =
-    let i = c .before .before .before .before in
+    let i = c .before .before .before .before .before .before in
     let b = to-batch i in
-    no-count _ (batch-is b) (index-is i) (says (c .before .before .read-hex3 .ensures) (c .enum-told3 .given .1))
+    c .bad3 .ensures ∙ field-not _ 12 4 (says (c .before .before .before .before .read-hex3 .ensures) (c .before .before .place3 .given .1)) (no-count _ (batch-is b) (index-is i))
 
 read-hex-requires-4 : tie.Need-read-hex-requires-4
-read-hex-requires-4 c κs = search needs
+read-hex-requires-4 c κs = (omega arith, omega arith, omega arith, count-good (c .before))
 
-enum-known-kind : tie.Need-enum-known-kind
-enum-known-kind c = search needs
+enum-known-n-4 : tie.Need-enum-known-n-4
+enum-known-n-4 c = search needs
 
-enum-told-4 : tie.Need-enum-told-4
-enum-told-4 c = search needs
+enum-known-place-4 : tie.Need-enum-known-place-4
+enum-known-place-4 c = search needs
+
+bad-requires-4 : tie.Need-bad-requires-4
+bad-requires-4 c κs = search needs
 
 returns-4 : tie.Need-returns-4
 returns-4 c =
-    let n = c .before .before .before .before in
+    let n = c .before .before .before .before .before .before in
     let i = to-index n in
     let b = to-batch i in
-    no-kind _ (batch-is b) (index-is i) (count-is n) (says (c .before .before .read-hex4 .ensures) (c .enum-told4 .given .1))
+    c .bad4 .ensures ∙ field-not _ 16 2 (says (c .before .before .before .before .read-hex4 .ensures) (c .before .before .place4 .given .1)) (no-kind _ (batch-is b) (index-is i) (count-is n))
 
 read-hex-requires-5 : tie.Need-read-hex-requires-5
-read-hex-requires-5 c κs = search needs
+read-hex-requires-5 c κs = (omega arith, omega arith, omega arith, kind-good (c .before))
 
-enum-known-key : tie.Need-enum-known-key
-enum-known-key c = search needs
+enum-known-n-5 : tie.Need-enum-known-n-5
+enum-known-n-5 c = search needs
 
-enum-told-5 : tie.Need-enum-told-5
-enum-told-5 c = search needs
+enum-known-place-5 : tie.Need-enum-known-place-5
+enum-known-place-5 c = search needs
+
+bad-requires-5 : tie.Need-bad-requires-5
+bad-requires-5 c κs = search needs
 
 returns-5 : tie.Need-returns-5
 returns-5 c =
-    let k = c .before .before .before .before in
+    let k = c .before .before .before .before .before .before in
     let n = to-count k in
     let i = to-index n in
     let b = to-batch i in
-    no-key _ (batch-is b) (index-is i) (count-is n) (kind-is k) (says (c .before .before .read-hex5 .ensures) (c .enum-told5 .given .1))
+    c .bad5 .ensures ∙ field-not _ 18 8 (says (c .before .before .before .before .read-hex5 .ensures) (c .before .before .place5 .given .1)) (no-key _ (batch-is b) (index-is i) (count-is n) (kind-is k))
 
 read-hex-requires-6 : tie.Need-read-hex-requires-6
-read-hex-requires-6 c κs = search needs
+read-hex-requires-6 c κs = (omega arith, omega arith, omega arith, key-good (c .before))
 
-enum-known-value : tie.Need-enum-known-value
-enum-known-value c = search needs
+enum-known-n-6 : tie.Need-enum-known-n-6
+enum-known-n-6 c = search needs
 
-enum-told-6 : tie.Need-enum-told-6
-enum-told-6 c = search needs
+enum-known-place-6 : tie.Need-enum-known-place-6
+enum-known-place-6 c = search needs
+
+bad-requires-6 : tie.Need-bad-requires-6
+bad-requires-6 c κs = search needs
 
 returns-6 : tie.Need-returns-6
 returns-6 c =
-    let y = c .before .before .before .before in
+    let y = c .before .before .before .before .before .before in
     let k = to-kind y in
     let n = to-count k in
     let i = to-index n in
     let b = to-batch i in
-    no-value _ (batch-is b) (index-is i) (count-is n) (kind-is k) (key-is y) (says (c .before .before .read-hex6 .ensures) (c .enum-told6 .given .1))
+    c .bad6 .ensures ∙ field-not _ 26 8 (says (c .before .before .before .before .read-hex6 .ensures) (c .before .before .place6 .given .1)) (no-value _ (batch-is b) (index-is i) (count-is n) (kind-is k) (key-is y))
 
 returns-7 : tie.Need-returns-7
 returns-7 c =
@@ -145,34 +181,40 @@ returns-7 c =
     let n = to-count k in
     let i = to-index n in
     let b = to-batch i in
-    all-read _ (batch-is b) (index-is i) (count-is n) (kind-is k) (key-is y) (value-is v)
+    all-said _ (all-read _ (batch-is b) (index-is i) (count-is n) (kind-is k) (key-is y) (value-is v))
 
 pub fields-spec : {M : Type 1} → statement M
 fields-spec =
     tie.close
     (tie.spec
     read-hex-requires
-    enum-known-batch
-    enum-told
+    enum-known-n
+    enum-known-place
+    bad-requires
     returns
     read-hex-requires-2
-    enum-known-index
-    enum-told-2
+    enum-known-n-2
+    enum-known-place-2
+    bad-requires-2
     returns-2
     read-hex-requires-3
-    enum-known-count
-    enum-told-3
+    enum-known-n-3
+    enum-known-place-3
+    bad-requires-3
     returns-3
     read-hex-requires-4
-    enum-known-kind
-    enum-told-4
+    enum-known-n-4
+    enum-known-place-4
+    bad-requires-4
     returns-4
     read-hex-requires-5
-    enum-known-key
-    enum-told-5
+    enum-known-n-5
+    enum-known-place-5
+    bad-requires-5
     returns-5
     read-hex-requires-6
-    enum-known-value
-    enum-told-6
+    enum-known-n-6
+    enum-known-place-6
+    bad-requires-6
     returns-6
     returns-7)

@@ -1,8 +1,8 @@
 -- Each check refuses before anything is written, and a line that passes all of them is heard.
 use borrow.Author.Needs.{needs}
 use mathlib.Core.Path.{_≡_, ap, sym, _∙_}
-use mathlib.Core.Option.{some}
 use Rattle.model.specs.Frame as lines
+use Rattle.model.specs.Frame.{good}
 use Rattle.frame.specs.Fields.{parsed, fieldsOf}
 use Rattle.link.proofs.Lines.{Checked, ready-checked, not-ready, malformed, foreign, taken, fit}
 use Rattle.link.proofs.receive.Statement.{statement}
@@ -19,7 +19,7 @@ checked : (c : tie.Else1) → Checked (entry c .args .b .now) (entry c .args .x 
 checked c = ready-checked (c .before .ready .ensures) (c .if1 .left)
 
 -- what the line says
-frame : (c : tie.After-f) → some (fieldsOf (c .f .given .0 .0)) ≡ lines.parse (entry (to-checks c) .args .line .now)
+frame : (c : tie.After-f) → good (fieldsOf (c .f .given .0 .0)) ≡ lines.read (entry (to-checks c) .args .line .now)
 frame c = ap parsed (sym (c .f .given .1)) ∙ c .before .before .parse .ensures
 
 ready-requires : tie.Need-ready-requires
@@ -43,11 +43,11 @@ parse-requires c κs = search needs
 enum-known-f : tie.Need-enum-known-f
 enum-known-f c = search needs
 
-enum-told : tie.Need-enum-told
-enum-told c = search needs
+enum-known-fault : tie.Need-enum-known-fault
+enum-known-fault c = search needs
 
-refused-requires-2 : tie.Need-refused-requires-2
-refused-requires-2 c κs = search needs
+faulty-requires : tie.Need-faulty-requires
+faulty-requires c κs = search needs
 
 same-length-3 : tie.Need-same-length-3
 same-length-3 c = search needs
@@ -57,14 +57,14 @@ same-length-4 c = search needs
 
 returns-2 : tie.Need-returns-2
 returns-2 c =
-    let said = ap parsed (sym (c .before .enum-told .given .1)) ∙ c .before .before .before .parse .ensures in
-    malformed (checked (c .before .before .before .before)) _ said (c .refused2 .ensures)
+    let said = ap parsed (sym (c .before .before .fault .given .1)) ∙ c .before .before .before .before .parse .ensures in
+    malformed (checked (c .before .before .before .before .before)) _ _ _ said (c .faulty .ensures)
 
 belongs-requires : tie.Need-belongs-requires
 belongs-requires c κs = checked (c .before .before .before .before .before) .inbox
 
-refused-requires-3 : tie.Need-refused-requires-3
-refused-requires-3 c κs = search needs
+refused-requires-2 : tie.Need-refused-requires-2
+refused-requires-2 c κs = search needs
 
 same-length-5 : tie.Need-same-length-5
 same-length-5 c = search needs
@@ -75,7 +75,7 @@ same-length-6 c = search needs
 returns-3 : tie.Need-returns-3
 returns-3 c =
     let f = c .before .before .before .before .before in
-    foreign (checked (to-checks f)) _ _ (frame f) (c .before .before .belongs .ensures) (c .before .if2 .taken) (c .refused3 .ensures)
+    foreign (checked (to-checks f)) _ _ (frame f) (c .before .before .belongs .ensures) (c .before .if2 .taken) (c .refused2 .ensures)
 
 hear-requires : tie.Need-hear-requires
 hear-requires c κs =
@@ -104,13 +104,13 @@ receive-spec =
     returns
     parse-requires
     enum-known-f
-    enum-told
-    refused-requires-2
+    enum-known-fault
+    faulty-requires
     same-length-3
     same-length-4
     returns-2
     belongs-requires
-    refused-requires-3
+    refused-requires-2
     same-length-5
     same-length-6
     returns-3

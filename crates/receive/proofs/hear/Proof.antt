@@ -27,7 +27,7 @@ parse-requires c κs = search needs
 returns-2 : tie.Need-returns-2
 returns-2 c =
     let p = c .before .before in
-    runs-waits (fieldsOf (p .parse .result .fields)) (p .before .before .before .before .before .args .line .now) (p .before .if1 .left) (p .parse .ensures) (c .if2 .taken)
+    runs-waits (fieldsOf (p .parse .result .fields)) (p .parse .result .place) (p .before .before .before .before .before .args .line .now) (p .before .if1 .left) (p .parse .ensures) (c .if2 .taken)
 
 begin-requires : tie.Need-begin-requires
 begin-requires c κs = search needs
@@ -47,7 +47,7 @@ returns-3 c =
     let begins = r .before .before .before .before .before in
     let p = begins .before .before .before .before in
     let start = p .before .before .before .before .before in
-    runs-begins (fieldsOf (p .parse .result .fields)) (start .args .line .now) (heardOf (r .receive2 .result)) (p .before .if1 .left) (p .parse .ensures) (begins .before .before .if2 .left) (start .pre)
+    runs-begins (fieldsOf (p .parse .result .fields)) (p .parse .result .place) (start .args .line .now) (heardOf (r .receive2 .result)) (p .before .if1 .left) (p .parse .ensures) (begins .before .before .if2 .left) (start .pre)
     (begins .begin .ensures) (r .receive2 .ensures)
 
 pub hear-spec : {M : Type 1} → statement M
