@@ -260,6 +260,56 @@ fn operations(n: usize, rounds: usize) {
     }
 }
 
+/// Lines of a batch in turn, so that the processor learns none by heart; damaged, each has one byte that is no digit.
+fn batch(damaged: bool) -> Vec<Vec<u8>> {
+    let mut random = Random::new(102);
+    let mut line = |index| {
+        let (key, value) = (random.next() as u32, random.next() as u32);
+        let mut line = Frame { batch: 7, index, count: 256, kind: 1, key, value }.line();
+        if damaged {
+            line[random.below(34)] = b'g';
+        }
+        line
+    };
+    (0..256).map(&mut line).collect()
+}
+
+/// The best of many rounds, the mean of a line.
+fn read_all(lines: &[Vec<u8>], damaged: bool, rounds: usize, refuses: impl Fn(&[u8]) -> bool) -> u128 {
+    let round = || nanoseconds(|| lines.iter().for_each(|line| assert_eq!(refuses(black_box(line)), damaged)));
+    (0..rounds).map(|_| round()).min().expect("there is a round") / lines.len() as u128
+}
+
+/// Reading a line on its own, beside plain fast Rust that does not tell faults apart.
+fn reading_lines(rounds: usize) {
+    println!("\n{:42} {:>6} {:>13} {:>13}", "lines", "ratio", "exported, ns", "Rust, ns");
+    for (name, damaged) in [("parse of a line", false), ("parse of a line with a bad digit", true)] {
+        let lines = batch(damaged);
+        let exported = read_all(&lines, damaged, rounds, |line| exports::parse(line).0 != 0);
+        let own = read_all(&lines, damaged, rounds, |line| black_box(fast::read_line(line)).is_none());
+        println!("{name:42} {:6.2} {exported:13} {own:13}", exported as f64 / own as f64);
+    }
+}
+
+/// A line with a bad digit at a standby of 2,000 entries, beside the audit in Rust and that reading.
+fn bad_line(n: usize, rounds: usize) {
+    let (start, line) = (entries(n, 2000, 0).words(), batch(true).swap_remove(0));
+    let mut inbox = vec![0; INBOX];
+    (inbox[0], inbox[1]) = (7, 256);
+    let call = Call::Receive { version: 0, line: line.clone() };
+    let (mut exported, mut own, mut reply) = (u128::MAX, u128::MAX, call.blank());
+    for _ in 0..rounds {
+        let mut block = start.clone();
+        exported = exported.min(nanoseconds(|| exports::run_into(black_box(&mut block), &mut inbox, &call, &mut reply)));
+        assert_ne!(reply.number, 0);
+        own = own.min(nanoseconds(|| {
+            assert_eq!(sizes::check(black_box(&start)), 0);
+            assert!(fast::receive(&mut [], &mut inbox, 0, black_box(&line)).is_none());
+        }));
+    }
+    println!("{:42} {:6.2} {exported:13} {own:13}", format!("receive of a bad line, N = {n}"), exported as f64 / own as f64);
+}
+
 /// Whether the exported union of two versions of k entries each, of which so many in a hundred are common, finds room beside them.
 fn finds_room(n: usize, k: u32, common: u32) -> bool {
     let mut table = entries(n, k, 0);
@@ -308,4 +358,6 @@ fn main() {
         println!("{common:3} in 100 common: {}", largest_union(4096, common));
     }
     operations(4096, rounds);
+    reading_lines(rounds);
+    [2048, 4096].iter().for_each(|&n| bad_line(n, rounds));
 }
