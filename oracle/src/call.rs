@@ -69,11 +69,13 @@ pub enum Call {
     },
 }
 
-/// The number, two fields in the order of the export's pointers (minutes: their low and high words), and the whole output: what was not written keeps its pattern.
+/// The number, two fields in the order of the export's pointers (minutes: their low and high words), the place of a line's bad digit, and the whole output:
+/// what was not written keeps its pattern.
 #[derive(Clone, PartialEq, Eq, Debug, Default)]
 pub struct Reply {
     pub number: u32,
     pub fields: [u32; 2],
+    pub place: u32,
     pub words: Vec<u32>,
     pub bytes: Vec<u8>,
 }

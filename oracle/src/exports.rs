@@ -59,6 +59,7 @@ extern "C" {
         kind: *mut u32,
         key: *mut u32,
         value: *mut u32,
+        place: *mut u32,
     ) -> u32;
     fn ksk_begin(inbox: *mut u32, words: usize, batch: u32) -> u32;
     fn ksk_receive(
@@ -71,6 +72,7 @@ extern "C" {
         bytes: usize,
         repeat: *mut u32,
         missing: *mut u32,
+        place: *mut u32,
     ) -> u32;
     fn ksk_missing(inbox: *const u32, words: usize, missing: *mut u32) -> u32;
 }
@@ -92,19 +94,20 @@ pub fn missing(inbox: &[u32]) -> (u32, u32) {
     (number, missing)
 }
 
-pub fn parse(line: &[u8]) -> (u32, Frame) {
+/// The number, the bad digit's place and the frame.
+pub fn parse(line: &[u8]) -> (u32, u32, Frame) {
     let mut f = Frame { batch: STALE, index: STALE, count: STALE, kind: STALE, key: STALE, value: STALE };
-    let number = unsafe {
-        ksk_parse(line.as_ptr(), line.len(), &mut f.batch, &mut f.index, &mut f.count, &mut f.kind, &mut f.key, &mut f.value)
-    };
-    (number, f)
+    let Frame { batch, index, count, kind, key, value } = &mut f;
+    let mut place = STALE;
+    let number = unsafe { ksk_parse(line.as_ptr(), line.len(), batch, index, count, kind, key, value, &mut place) };
+    (number, place, f)
 }
 
 /// How often each number was answered.
 pub static ANSWERS: [AtomicU64; 15] = [const { AtomicU64::new(0) }; 15];
 
 /// The numbers that a call on a block can answer: a comparison that never meets one compares less than it says.
-pub const NUMBERS: [usize; 11] = [0, 1, 2, 3, 4, 5, 6, 7, 8, 9, 14];
+pub const NUMBERS: [usize; 14] = [0, 1, 2, 3, 4, 5, 6, 7, 8, 9, 10, 11, 12, 14];
 
 /// Runs a call. Fields that an export does not have stay zero.
 pub fn run(block: &mut [u32], inbox: &mut [u32], call: &Call) -> Reply {
@@ -155,7 +158,9 @@ pub fn run_into(block: &mut [u32], inbox: &mut [u32], call: &Call, reply: &mut R
                         ksk_frames(b, words, from, to, batch, start, reply.bytes.as_mut_ptr(), room, x, y)
                     }
                     Call::Receive { version, ref line } => {
-                        ksk_receive(b, words, inbox.as_mut_ptr(), inbox.len(), version, line.as_ptr(), line.len(), x, y)
+                        reply.place = STALE;
+                        let (inbox, inbox_words) = (inbox.as_mut_ptr(), inbox.len());
+                        ksk_receive(b, words, inbox, inbox_words, version, line.as_ptr(), line.len(), x, y, &mut reply.place)
                     }
                     _ => unreachable!("answered above"),
                 }

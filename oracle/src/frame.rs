@@ -1,8 +1,24 @@
-//! Frame lines and inboxes, from document 01.
+//! Frame lines and inboxes, from document 01; the faults of a line, from document 02 (#102).
 
 use crate::walk::Change;
 
 pub const LINE: usize = 35;
+
+pub const FRAME: u32 = 7;
+pub const DIGIT: u32 = 10;
+pub const KIND: u32 = 11;
+pub const RANGE: u32 = 12;
+
+/// What is wrong with a line, and the first bad digit's place; the place is 0 with every other number.
+#[derive(Clone, Copy, PartialEq, Eq, Debug)]
+pub struct Fault {
+    pub number: u32,
+    pub place: u32,
+}
+
+fn fault(number: u32) -> Fault {
+    Fault { number, place: 0 }
+}
 
 #[derive(Clone, Copy, PartialEq, Eq, Debug)]
 pub struct Frame {
@@ -30,11 +46,12 @@ impl Frame {
         }
     }
 
-    pub fn parse(line: &[u8]) -> Option<Frame> {
-        let digits = line.strip_suffix(b"\n")?;
-        let lower = digits.iter().all(|c| c.is_ascii_digit() || (b'a'..=b'f').contains(c));
-        if digits.len() != 34 || !lower {
-            return None;
+    /// The one fault that a line is told to have, or its frame: its length and newline first, then digits, kind, other fields.
+    pub fn read(line: &[u8]) -> Result<Frame, Fault> {
+        let digits = line.strip_suffix(b"\n").filter(|digits| digits.len() == 34).ok_or(fault(FRAME))?;
+        let bad = |c: &u8| !(c.is_ascii_digit() || (b'a'..=b'f').contains(c));
+        if let Some(place) = digits.iter().position(bad) {
+            return Err(Fault { number: DIGIT, place: place as u32 });
         }
         let text = std::str::from_utf8(digits).unwrap();
         let field = |from: usize, to: usize| u32::from_str_radix(&text[from..to], 16).unwrap();
@@ -46,7 +63,16 @@ impl Frame {
             key: field(18, 26),
             value: field(26, 34),
         };
-        frame.legal().then_some(frame)
+        match (frame.kind, frame.legal()) {
+            (3.., _) => Err(fault(KIND)),
+            (_, false) => Err(fault(RANGE)),
+            (_, true) => Ok(frame),
+        }
+    }
+
+    /// The frame, where it does not matter what is wrong.
+    pub fn parse(line: &[u8]) -> Option<Frame> {
+        Frame::read(line).ok()
     }
 }
 

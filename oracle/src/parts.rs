@@ -1,6 +1,7 @@
 //! The parts of a comparison. Each gives the number of cases it compared, or the first that differs.
 
 pub mod cases;
+pub mod checks;
 pub mod damage;
 pub mod exhaustive;
 pub mod held;

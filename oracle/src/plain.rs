@@ -1,7 +1,7 @@
 //! What document 01 says of each call: the reply, the trees and the inbox afterwards.
 
 use crate::call::{Call, Reply};
-use crate::frame::{self, Frame, LINE};
+use crate::frame::{self, Fault, Frame, LINE};
 use crate::rules::{self, Supply, Tree};
 use crate::table::Table;
 use crate::walk::{self, TooDeep};
@@ -10,14 +10,31 @@ pub const VERSION: u32 = 3;
 pub const RULE: u32 = 4;
 pub const NO_ROOM: u32 = 5;
 pub const TOO_DEEP: u32 = 6;
-pub const FRAME: u32 = 7;
 pub const BATCH: u32 = 8;
 pub const COUNT: u32 = 9;
 pub const SUM: u32 = 14;
 
-impl From<TooDeep> for u32 {
-    fn from(_: TooDeep) -> u32 {
-        TOO_DEEP
+/// A refusal's number, and the place of a bad digit.
+struct Refusal {
+    number: u32,
+    place: u32,
+}
+
+impl From<u32> for Refusal {
+    fn from(number: u32) -> Refusal {
+        Refusal { number, place: 0 }
+    }
+}
+
+impl From<TooDeep> for Refusal {
+    fn from(_: TooDeep) -> Refusal {
+        TOO_DEEP.into()
+    }
+}
+
+impl From<Fault> for Refusal {
+    fn from(Fault { number, place }: Fault) -> Refusal {
+        Refusal { number, place }
     }
 }
 
@@ -26,19 +43,24 @@ pub fn answer(table: &mut Table, inbox: &mut [u32], call: &Call) -> Reply {
     let mut reply = call.blank();
     match run(table, inbox, call, &mut reply) {
         Ok(()) => reply,
-        Err(number) => Reply { number, ..call.blank() },
+        Err(Refusal { number, place }) => Reply { number, place, ..call.blank() },
     }
 }
 
-fn run(table: &mut Table, inbox: &mut [u32], call: &Call, reply: &mut Reply) -> Result<(), u32> {
+/// What is looked at before anything else: versions, rules and sums.
+fn refused(table: &Table, call: &Call) -> Option<u32> {
     if call.versions().iter().any(|&version| version > 15) {
-        return Err(VERSION);
+        Some(VERSION)
+    } else if !call.rule_known() {
+        Some(RULE)
+    } else {
+        exceeds(table, call).then_some(SUM)
     }
-    if !call.rule_known() {
-        return Err(RULE);
-    }
-    if exceeds(table, call) {
-        return Err(SUM);
+}
+
+fn run(table: &mut Table, inbox: &mut [u32], call: &Call, reply: &mut Reply) -> Result<(), Refusal> {
+    if let Some(number) = refused(table, call) {
+        return Err(number.into());
     }
     let tree = |version: u32| table.versions[version as usize].clone();
     match *call {
@@ -141,13 +163,13 @@ pub fn frame_edit(frame: &Frame, version: u32) -> Option<Call> {
     }
 }
 
-fn receive(table: &mut Table, inbox: &mut [u32], version: u32, line: &[u8]) -> Result<[u32; 2], u32> {
-    let frame = Frame::parse(line).ok_or(FRAME)?;
+fn receive(table: &mut Table, inbox: &mut [u32], version: u32, line: &[u8]) -> Result<[u32; 2], Refusal> {
+    let frame = Frame::read(line)?;
     if frame.batch != inbox[0] {
-        return Err(BATCH);
+        return Err(BATCH.into());
     }
     if inbox[1] != 0 && inbox[1] != frame.count {
-        return Err(COUNT);
+        return Err(COUNT.into());
     }
     let repeat = frame::heard(inbox, frame.index);
     if !repeat {

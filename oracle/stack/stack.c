@@ -20,7 +20,7 @@ static uint8_t lines[LINES], line[KSK_LINE_BYTES];
 
 /* What the call is given. */
 static struct { uint32_t dest, left, right, rule, cancel, key; } in;
-static uint32_t answer, field[6];
+static uint32_t answer, field[7];
 static uint64_t total[3];
 
 static void audit(void) { answer = ksk_audit(block, WORDS); }
@@ -37,9 +37,9 @@ static void unite(void) { answer = ksk_union(block, WORDS, in.dest, in.left, in.
 static void difference(void) { answer = ksk_difference(block, WORDS, in.dest, in.left, in.right, in.rule, in.cancel); }
 static void list(void) { answer = ksk_list(block, WORDS, in.left, in.right, 0, entries, ENTRIES, field, field + 1); }
 static void frames(void) { answer = ksk_frames(block, WORDS, in.left, in.right, 7, 0, lines, LINES, field, field + 1); }
-static void parse(void) { answer = ksk_parse(line, KSK_LINE_BYTES, field, field + 1, field + 2, field + 3, field + 4, field + 5); }
+static void parse(void) { answer = ksk_parse(line, KSK_LINE_BYTES, field, field + 1, field + 2, field + 3, field + 4, field + 5, field + 6); }
 static void begin(void) { answer = ksk_begin(inbox, KSK_INBOX_WORDS, 7); }
-static void receive(void) { answer = ksk_receive(block, WORDS, inbox, KSK_INBOX_WORDS, in.dest, line, KSK_LINE_BYTES, field, field + 1); }
+static void receive(void) { answer = ksk_receive(block, WORDS, inbox, KSK_INBOX_WORDS, in.dest, line, KSK_LINE_BYTES, field, field + 1, field + 2); }
 static void missing(void) { answer = ksk_missing(inbox, KSK_INBOX_WORDS, field); }
 static void ledger_fresh(void) { answer = ksk_ledger_fresh(ledger, KSK_LEDGER_WORDS(256), 256); }
 static void ledger_top_up(void) { answer = ksk_ledger_top_up(ledger, KSK_LEDGER_WORDS(256), 0, 1000); }

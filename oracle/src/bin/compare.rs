@@ -7,11 +7,13 @@ use std::sync::atomic::{AtomicUsize, Ordering};
 use std::thread;
 use std::time::Instant;
 
-const PARTS: [(&str, fn(Effort) -> Compared); 15] = [
+const PARTS: [(&str, fn(Effort) -> Compared); 17] = [
     ("worked cases of document 01", cases::worked),
     ("fresh blocks at every N", limits::fresh),
     ("inboxes: begin and missing", limits::inboxes),
     ("lines: read", lines::read),
+    ("lines: received", lines::received),
+    ("lines: several checks failing at once", lines::several),
     ("exhaustive: four calls, two versions, three keys", exhaustive::all),
     ("random histories, room short", histories::small),
     ("random histories, large trees", histories::large),
@@ -66,7 +68,7 @@ fn main() -> ExitCode {
     println!("seed {}, {} times", effort.seed, effort.times);
     let (passed, mut failed) = compared(effort);
     let answers = NUMBERS.map(|number| ANSWERS[number].load(Ordering::Relaxed));
-    println!("answers by number, 0 to 9 and 14: {answers:?}");
+    println!("answers by number, 0 to 12 and 14: {answers:?}");
     if answers.contains(&0) {
         failed += 1;
         println!("FAILED: a number was never answered");
