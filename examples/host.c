@@ -78,6 +78,18 @@ static void open_call(uint32_t call, uint32_t minutes)
     expect_done("ksk_ledger_reserve", ksk_ledger_reserve(ledger, KSK_LEDGER_WORDS(ACCOUNTS), primary, KSK_BLOCK_WORDS(N), OPEN_CALLS, call, minutes, &table));
 }
 
+/* 0 minutes would read like a release: the ledger answers that the table refused the edit, and the table's number says why. */
+static void refuse_zero(uint32_t call)
+{
+    uint32_t table;
+    uint32_t number = ksk_ledger_reserve(ledger, KSK_LEDGER_WORDS(ACCOUNTS), primary, KSK_BLOCK_WORDS(N), OPEN_CALLS, call, 0, &table);
+    if (number != KSK_EDIT_REFUSED || table != KSK_ZERO) {
+        fprintf(stderr, "a reservation of 0 minutes answered %u beside %u\n", number, table);
+        exit(1);
+    }
+    printf("call %u refused: 0 minutes\n", call);
+}
+
 /* The standby is sent what has changed since it was last sent something. */
 static void bring_up_to_date(uint32_t batch)
 {
@@ -103,6 +115,7 @@ static void accounts(void)
     expect_done("ksk_ledger_top_up", ksk_ledger_top_up(ledger, KSK_LEDGER_WORDS(ACCOUNTS), 1, 100));
     open_call(CALL(1u, 5u), 30);
     open_call(CALL(1u, 6u), 40);
+    refuse_zero(CALL(1u, 7u));
     print_account(1);
     bring_up_to_date(8);
     print(standby, OPEN_CALLS);

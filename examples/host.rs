@@ -2,7 +2,7 @@
 
 mod ksk;
 
-use ksk::{Block, Frame, Inbox, Ledger, Refusal};
+use ksk::{Block, Declined, Frame, Inbox, Ledger, Refusal};
 use std::error::Error;
 
 /// The version that the ledger is over: it holds the open calls.
@@ -70,6 +70,9 @@ fn accounts(primary: &mut Block, standby: &mut Block) -> Result<(), Box<dyn Erro
     ledger.top_up(1, 100)?;
     ledger.reserve(primary, OPEN_CALLS, call(5), 30)?;
     ledger.reserve(primary, OPEN_CALLS, call(6), 40)?;
+    // 0 minutes would read like a release.
+    assert_eq!(ledger.reserve(primary, OPEN_CALLS, call(7), 0), Err(Declined::Edit(Refusal::Zero)));
+    println!("call {} refused: 0 minutes", call(7));
     print_account(&ledger, primary, 1)?;
     bring_up_to_date(primary, 8, standby)?;
     print(standby, OPEN_CALLS)?;

@@ -47,6 +47,7 @@ pub enum Refusal {
     Digit(u32),
     Kind,
     Range,
+    Zero,
     Sum,
 }
 
@@ -108,8 +109,9 @@ fn heard(number: u32, place: u32) -> Result<(), Refusal> {
         10 => Refusal::Digit(place),
         11 => Refusal::Kind,
         12 => Refusal::Range,
+        13 => Refusal::Zero,
         14 => Refusal::Sum,
-        other => unreachable!("the table gives numbers 0 to 12 and 14, not {other}"),
+        other => unreachable!("the table gives numbers 0 to 14, not {other}"),
     })
 }
 
@@ -161,7 +163,7 @@ impl Block {
         Ok(minutes)
     }
 
-    /// Version `dest` becomes version `source` with `value` under `key`; answers what stood there.
+    /// Version `dest` becomes version `source` with `value` under `key`; answers what stood there. A value of 0 is `Refusal::Zero`.
     pub fn insert(&mut self, dest: u32, source: u32, key: u32, value: u32) -> Result<Option<u32>, Refusal> {
         let (mut had, mut old) = (0, 0);
         done(unsafe { ksk_insert(self.words.as_mut_ptr(), self.words.len(), dest, source, key, value, &mut had, &mut old) })?;

@@ -17,7 +17,7 @@
 extern "C" {
 #endif
 
-/* Numbers a call gives back, in the order in which they are checked: 1, 2, 3, 4, 14, 7, 10, 11, 12, 8, 9, 6, 5. */
+/* Numbers a call gives back, in the order in which they are checked: 1, 2, 3, 4, 13, 14, 7, 10, 11, 12, 8, 9, 13 of a line, 6, 5. */
 #define KSK_DONE     0u
 #define KSK_SHAPE    1u /* block length or N is wrong, or inbox not 130 words */
 #define KSK_DAMAGED  2u /* block not sound, or inbox not sound */
@@ -31,6 +31,7 @@ extern "C" {
 #define KSK_DIGIT    10u /* a byte of a line's 34 is no lower-case hexadecimal digit; place is that of the first, 0 to 33 */
 #define KSK_KIND     11u /* a line's kind is above 2 */
 #define KSK_RANGE    12u /* any other field rule of a line is broken: docs/LINES.md */
+#define KSK_ZERO     13u /* a value of 0 was to be put, by an insert or by a line */
 #define KSK_SUM      14u /* union rule 4: the sum of a common key is above 4,294,967,295 */
 
 /* Numbers of the ledger, in the order in which they are checked. */
@@ -72,7 +73,7 @@ uint32_t ksk_held(const uint32_t *block, size_t words, uint32_t version, uint64_
 /* The minutes that it holds from key first to key last, ends included; 0 where first is above last. */
 uint32_t ksk_held_between(const uint32_t *block, size_t words, uint32_t version, uint32_t first, uint32_t last, uint64_t *minutes);
 
-/* Version dest becomes version source with value under key; had and old tell what stood there. */
+/* Version dest becomes version source with value under key; had and old tell what stood there. A value of 0 is KSK_ZERO. */
 uint32_t ksk_insert(uint32_t *block, size_t words, uint32_t dest, uint32_t source, uint32_t key, uint32_t value, uint32_t *had, uint32_t *old);
 
 /* Version dest becomes version source without key; an absent key acts as copy. */
@@ -105,7 +106,7 @@ uint32_t ksk_parse(const uint8_t *line, size_t bytes, uint32_t *batch, uint32_t 
 uint32_t ksk_begin(uint32_t *inbox, size_t words, uint32_t batch);
 
 /* Hears one line: does its edit in the version and marks its index. repeat is 1 for an index heard before; missing is how many are still to come, 0 when complete;
- * place is that of the line's first bad digit beside KSK_DIGIT, else 0. */
+ * place is that of the line's first bad digit beside KSK_DIGIT, else 0. A line that puts 0 is KSK_ZERO, heard before or not, so its batch never becomes complete. */
 uint32_t ksk_receive(uint32_t *block, size_t words, uint32_t *inbox, size_t inbox_words, uint32_t version, const uint8_t *line, size_t bytes, uint32_t *repeat, uint32_t *missing, uint32_t *place);
 
 /* How many lines are missing; KSK_UNKNOWN while no line has been accepted. */
@@ -120,7 +121,7 @@ uint32_t ksk_ledger_fresh(uint64_t *ledger, size_t words, uint32_t accounts);
 /* Adds minutes to an account's topped-up and free. */
 uint32_t ksk_ledger_top_up(uint64_t *ledger, size_t words, uint32_t account, uint64_t minutes);
 
-/* Opens a call: its minutes go from free into the version. */
+/* Opens a call: its minutes go from free into the version. 0 minutes are KSK_EDIT_REFUSED with KSK_ZERO beside it. */
 uint32_t ksk_ledger_reserve(uint64_t *ledger, size_t ledger_words, uint32_t *block, size_t words, uint32_t version, uint32_t call, uint32_t minutes, uint32_t *table);
 
 /* Closes a call: used minutes are spent, the rest of what it reserved is free again. Its number may be used again. */

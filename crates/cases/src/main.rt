@@ -130,6 +130,36 @@ fn known_rules() {
     text(b"\n");
 }
 
+// What version 1 holds under key 1, after the call that made it.
+fn holds(s: &[u8], b: &[u32], a: Answer) {
+    show(s, a);
+    let f = lookup(b, 1, 1);
+    text(b" ");
+    io::print_decimal(1, f.found as u64);
+    text(b":");
+    io::print_decimal(1, f.value as u64);
+}
+
+// 0 minutes are not put, whether the key is there or not, and a version number is looked at before. A block that holds them by hand is sound, and they are
+// carried: node 1 has its value at word 19 and its sum at 24.
+fn zeros() {
+    let mut b = [0u32; 274];
+    fresh(&mut b, 32);
+    show(b"zeros: insert", insert(&mut b, 0, 0, 1, 0));
+    show(b", of version 16", insert(&mut b, 0, 16, 1, 0));
+    insert(&mut b, 0, 0, 1, 7);
+    show(b", of a key that is there", insert(&mut b, 0, 0, 1, 0));
+    put(&mut b, 19, 0);
+    put(&mut b, 24, 0);
+    let a = copy(&mut b, 1, 0);
+    holds(b", by hand: copy", &b, a);
+    let a = union(&mut b, 1, 0, 2, 4);
+    holds(b", union", &b, a);
+    let a = difference(&mut b, 1, 0, 2, 0, false);
+    holds(b", difference", &b, a);
+    text(b"\n");
+}
+
 fn put(b: &mut [u32], at: usize, x: u32) {
     if at < b.len() {
         b[at] = x;
@@ -318,6 +348,7 @@ fn main() {
     digits();
     faults();
     known_rules();
+    zeros();
     full_chain();
     half_chain();
     chain_sums();

@@ -55,7 +55,7 @@ going l b v call q (passes p (passes k (a, L, fails u e))) z = let f : _≡_ {A 
 going l b v call q (passes p (passes k (a, L, passes u e))) z = record { formed = p; known = k; answer = a; looked = L; plain = u; found = e .1; value = e .2 }
 
 -- the table's edit
-finding-number : (o : Option ℕ) → finding o .number ≡ 0
+pub finding-number : (o : Option ℕ) → finding o .number ≡ 0
 finding-number none = refl
 finding-number (some v) = refl
 

@@ -6,22 +6,33 @@ use mathlib.Core.Option.{none, some}
 use mathlib.Core.List.{List, []}
 use native.Mathlib.Omega.{arith}
 use native.Mathlib.Decide.{ℕ-discrete}
-use Rattle.model.specs.Tree.{Entry, entries, find}
+use Rattle.model.specs.Tree.{Entry, entries, lookup, find}
 use Rattle.model.specs.Heap.{version}
 use Rattle.model.specs.Block.{heap, SoundBlock}
-use Rattle.model.specs.Calls.{fails, passes, Answer, finding, Edit, Edits}
+use Rattle.model.specs.Numbers.{ZERO}
+use Rattle.model.specs.Calls.{fails, passes, Answer, finding, Edit, Edits, Lookup}
 use Rattle.model.proofs.Meanings.{edit-done, refused-edit-changes-nothing, others-keep-their-entries, lookup-finds}
-use Rattle.ledger.specs.Numbers.{OPEN, TOTAL}
-use Rattle.ledger.specs.Ledger.{freshLedger, accountOf, Reply, Act, turnedAway, Reserve, Settle}
+use Rattle.model.proofs.Refusals.{zero-exactly}
+use Rattle.table.proofs.Admitting.{one-known, two-known}
+use Rattle.ledger.specs.Numbers.{OPEN, TOTAL, EDIT-REFUSED}
+use Rattle.ledger.specs.Ledger.{freshLedger, accounts, Formed, accountOf, Reply, replying, Act, turnedAway, Reserve, Settle}
 use Rattle.ledger.specs.Steps.{Steps, beside}
 use Rattle.ledger.proofs.Sums.{reserved-without}
 use Rattle.ledger.proofs.Columns.{own-same}
 use Rattle.ledger.proofs.Meanings.{found-some, settle-takes-out}
 use Rattle.ledger.proofs.Minutes.{within-64}
+use Rattle.ledger.proofs.Asking.{finding-number}
 
 -- a refusal has one number
 other : {s : Act} {n m k : ℕ} → turnedAway s n m → n ≢ k → s .answer .number ≢ k
 other r ne e = ne (sym (ap (λ (x : Reply). x .number) (r .0)) ∙ e)
+
+-- the table looks up in every version of a sound block
+looked-up : {b : List ℕ} {v : ℕ} (call : ℕ) {a : Answer} → SoundBlock b → v < 16 → Lookup b v call a → a .number ≡ 0
+looked-up call B lt (fails p r) = absurd (p (B .shaped))
+looked-up call B lt (passes p (fails q r)) = absurd (q B)
+looked-up call B lt (passes p (passes q (fails u r))) = absurd (u (one-known lt))
+looked-up {b} {v} call B lt (passes p (passes q (passes u r))) = ap (λ (x : Answer). x .number) r ∙ finding-number (lookup (version (heap b) v) call)
 
 -- a call that the version does not hold is not open already
 pub not-open-yet : (s : Act) (v call minutes : ℕ) → find (entries (version (heap (s .block)) v)) call ≡ none → Reserve s v call minutes → s .answer .number ≢ OPEN
@@ -40,6 +51,17 @@ may-be-used-again s t v call used minutes D z e R = not-open-yet t v call minute
 -- OPEN and NOT-OPEN say what the version holds
 pub open-means : (s : Act) (v call minutes : ℕ) → Reserve s v call minutes → s .answer .number ≡ OPEN → find (entries (version (heap (s .block)) v)) call ≢ none
 open-means s v call minutes R e n = not-open-yet s v call minutes n R e
+
+-- 0 minutes are not reserved: where nothing before it is wrong, the answer is EDIT-REFUSED and the table's ZERO beside it
+pub reserve-zero : (s : Act) (v call : ℕ) → Formed (s .ledger) → accountOf call < accounts (s .ledger) → SoundBlock (s .block) → v < 16 → find (entries (version (heap (s .block)) v)) call ≡ none → Reserve s v call 0
+    → s .answer ≡ replying EDIT-REFUSED ZERO
+reserve-zero s v call F K B lt n (fails p r) = absurd (p F)
+reserve-zero s v call F K B lt n (passes p (fails k r)) = absurd (k K)
+reserve-zero s v call F K B lt n (passes p (passes k (a, L, fails u r))) = absurd (u (looked-up call B lt L))
+reserve-zero s v call F K B lt n (passes p (passes k (a, L, passes u (fails f r)))) = absurd (f (ap (λ (x : Answer). x .found) (lookup-finds v call L u ∙ ap finding n)))
+reserve-zero s v call F K B lt n (passes p (passes k (a, L, passes u (passes f (fails q r))))) = absurd (q (omega arith))
+reserve-zero s v call F K B lt n (passes p (passes k (a, L, passes u (passes f (passes q (d, E, fails w r)))))) = r .0 ∙ ap (replying EDIT-REFUSED) (zero-exactly v v call 0 E .1 (B, two-known lt lt, refl))
+reserve-zero s v call F K B lt n (passes p (passes k (a, L, passes u (passes f (passes q (d, E, passes w r)))))) = let z : _≡_ {A = ℕ} 13 0 = sym (zero-exactly v v call 0 E .1 (B, two-known lt lt, refl)) ∙ w in absurd (omega arith)
 
 -- Steps of the history.
 

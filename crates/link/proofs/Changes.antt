@@ -71,7 +71,7 @@ module _ {b : List ℕ} {v r : ℕ} (S : Source b v r) (f : Frame) where
 
 -- as an edit of the table, of which the link has no other answer than its number
 abbrev pub changing : (b : List ℕ) (v : ℕ) → Frame → Edit
-changing b v f = record { versions = v ∷ []; legal = true; fits = true; dst = v; rule = ruleOf b v f; answer = giving 0 }
+changing b v f = record { versions = v ∷ []; legal = true; positive = true; fits = true; dst = v; rule = ruleOf b v f; answer = giving 0 }
 
 pub changed : {b c after : List ℕ} {v low n : ℕ} {made : Made} (f : Frame) → Run b c low made (changing b v f) → Settled c after v made n → Words b → Words after → Editing b after v f n
 changed {b} {c} {after} {v} {n = n} {made = made} f R S wb wa = go made (R .out) S

@@ -1,18 +1,22 @@
 -- A line from its checks to its end: a refusal changes nothing, and only a line whose edit is done is marked.
 use mathlib.Core.Path.{_≡_, refl, ap, sym, subst, _∙_}
-use mathlib.Core.Logic.{_≢_}
+use mathlib.Core.Logic.{_≢_, _⊎_, inr, ⊎-elim}
 use Prim.Native.Nat.{ℕ, _<_}
 use mathlib.Core.Bool.{true, false}
 use mathlib.Core.List.{List}
+use lib.Dec.{eqb, ltb}
 use native.Mathlib.Omega.{arith}
+use native.Mathlib.Decide.{ℕ-discrete}
 use Rattle.model.specs.Block.{SoundBlock}
 use Rattle.model.specs.Frame as lines
 use Rattle.model.specs.Frame.{Reading, good, fault}
-use Rattle.model.specs.Inbox.{heardAt, SoundInbox, marked, missing}
+use Rattle.model.specs.Inbox.{countOf, heardAt, SoundInbox, marked, missing}
 use Rattle.model.specs.Calls.{passes}
 use Rattle.model.specs.Link as link
-use Rattle.model.specs.Link.{Parse, turnedAway, Takes, Says, Receive}
+use Rattle.model.specs.Link.{Parse, turnedAway, Takes, PutsZero, Says, Receive}
+use Rattle.model.specs.Tells.{Tells}
 use Rattle.model.proofs.Checks.{check-map, check-holds, check-next}
+use Rattle.model.proofs.Tells.{tells-eqb, tells-ltb}
 use Rattle.model.proofs.Heard.{Markable}
 use Rattle.model.proofs.Lines.{legal-exactly, good-parse, parse-only}
 use Rattle.frame.specs.declared.Frame.{Frame}
@@ -23,6 +27,18 @@ use Rattle.link.specs.Answers.{heardOf, step, Ready, Belongs, Editing, F
 -- the fields of an answer to a line that has no bad digit
 abbrev told : (number again missing : ℕ) → link.Heard
 told number again missing = record { number = number; again = again; missing = missing; place = 0 }
+
+-- a count that is known agrees where it is the same
+pub count-told : (x : List ℕ) (count : ℕ) → countOf x ≢ 0 → Tells (eqb (countOf x) count) ((countOf x ≡ 0) ⊎ (countOf x ≡ count))
+count-told x count ne = tells-eqb (countOf x) count inr (⊎-elim (λ e. absurd (ne e)) (λ e. e))
+
+-- a put puts no zero where its value is above 0
+pub worth-told : (f : lines.Frame) → f .kind ≡ 1 → Tells (ltb 0 (f .value)) (¬ PutsZero f)
+worth-told f k = tells-ltb 0 (f .value) (λ h z. omega (arith, z .1)) (λ n. go n (ℕ-discrete (f .value) 0))
+  where
+    go : ¬ PutsZero f → Dec (f .value ≡ 0) → 0 < f .value
+    go n (yes e) = absurd (n (k, e))
+    go n (no e) = omega arith
 
 -- a refusal, under the number that the check gave
 away : {b x : List ℕ} {a : Heard} {n m : ℕ} → heardOf a ≡ told n 0 0 → n ≡ m → turnedAway (step b x b x a) m
@@ -62,10 +78,12 @@ module _ {b x : List ℕ} {v : ℕ} (C : Checked b x v) (line : List ℕ) where
   -- a line that says f
   module _ (f : Frame) (e : good (fieldsOf f) ≡ lines.read line) {n : ℕ} (B : Belongs x f n) where
     pub foreign : {a : Heard} → n ≢ 0 → heardOf a ≡ told n 0 0 → Receive (step b x b x a) v line
-    foreign {a} ne q = says a e (check-map B (away q) (λ B. check-map B (away q) (λ z. absurd (ne z))))
+    foreign {a} ne q = says a e (check-map B (away q) (λ B. check-map B (away q) (λ B. check-map B (away q) (λ z. absurd (ne z)))))
 
     pub taken : {b′ x′ : List ℕ} {a : Heard} → n ≡ 0 → Takes (step b x b′ x′ a) v (fieldsOf f) (heardAt x (f .index)) → Receive (step b x b′ x′ a) v line
-    taken {a = a} z T = says a e (passes (check-holds 7 B z) (passes (check-holds 8 (check-next 7 B z) z) T))
+    taken {a = a} z T =
+        let C = check-next 7 B z in
+        says a e (passes (check-holds 7 B z) (passes (check-holds 8 C z) (passes (check-holds 12 (check-next 8 C z) z) T)))
 
     -- it was parsed, so it is legal, and its index has a bit
     pub fit : n ≡ 0 → Fit b x v f

@@ -10,10 +10,10 @@ use Rattle.model.specs.Supply.{Make, short}
 use Rattle.model.specs.Heap.{version, supply}
 use Rattle.model.specs.Block.{heap, Shaped, SoundBlock}
 use Rattle.model.specs.Inbox.{batchOf, countOf, SoundInbox}
-use Rattle.model.specs.Numbers.{SHAPE, DAMAGED, VERSION, NO_ROOM, BATCH, COUNT}
+use Rattle.model.specs.Numbers.{SHAPE, DAMAGED, VERSION, NO_ROOM, BATCH, COUNT, ZERO}
 use Rattle.model.specs.Calls.{Check, Edited}
 use Rattle.model.specs.Link as link
-use Rattle.model.specs.Link.{frameRule, Step}
+use Rattle.model.specs.Link.{frameRule, Step, PutsZero}
 use Rattle.frame.specs.declared.Frame.{Frame}
 use Rattle.frame.specs.Fields.{fieldsOf}
 use Rattle.link.specs.declared.Heard.{Heard}
@@ -32,9 +32,9 @@ Ready b x v n =
     (Check (length x ≡ 130) (n ≡ SHAPE)
     (Check (SoundBlock b) (n ≡ DAMAGED) (Check (SoundInbox x) (n ≡ DAMAGED) (Check (v < 16) (n ≡ VERSION) (n ≡ 0)))))
 
--- the frame's batch and count are the inbox's; n is 0 where they are
+-- the frame's batch and count are the inbox's, and it puts no zero; n is 0 where that is so
 abbrev pub Belongs : List ℕ → Frame → ℕ → Type 0
-Belongs x f n = Check (f .batch ≡ batchOf x) (n ≡ BATCH) (Check ((countOf x ≡ 0) ⊎ (countOf x ≡ f .count)) (n ≡ COUNT) (n ≡ 0))
+Belongs x f n = Check (f .batch ≡ batchOf x) (n ≡ BATCH) (Check ((countOf x ≡ 0) ⊎ (countOf x ≡ f .count)) (n ≡ COUNT) (Check (¬ PutsZero (fieldsOf f)) (n ≡ ZERO) (n ≡ 0)))
 
 -- the rule of a frame on version v
 abbrev pub ruleOf : (b : List ℕ) (v : ℕ) → Frame → Make Tree

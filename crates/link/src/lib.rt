@@ -16,11 +16,13 @@ use table::edits::without;
 use tree::find;
 use tree::insert;
 ghost use mathlib.Core.Path.{_≡_};
+ghost use mathlib.Core.Logic.{_⊎_};
 ghost use Prim.Native.Nat.{_<_};
 ghost use Rattle.model.specs.Block.{heap, SoundBlock};
-ghost use Rattle.model.specs.Inbox.{heardAt, SoundInbox};
+ghost use Rattle.model.specs.Inbox.{countOf, heardAt, SoundInbox};
+ghost use Rattle.model.specs.Tells.{Tells};
 ghost use Rattle.model.specs.Frame as lines;
-ghost use Rattle.model.specs.Link.{Parse, Takes, Receive};
+ghost use Rattle.model.specs.Link.{Parse, Takes, PutsZero, Receive};
 ghost use Rattle.frame.specs.Fields.{fieldsOf};
 ghost use mathlib.Core.List.{[], _∷_};
 ghost use Rattle.block.specs.Outcome.{Outcome};
@@ -35,6 +37,8 @@ const VERSION: u32 = 3;
 const BATCH: u32 = 8;
 
 const COUNT: u32 = 9;
+
+const ZERO: u32 = 13;
 
 // 0 and a line's fields, or what is wrong with it and zeros; the place of a bad digit.
 pub struct Said {
@@ -121,7 +125,28 @@ fn ready(b: &[u32], x: &[u32], version: u32) -> u32
     0
 }
 
-// Whether the frame is of the batch that is heard. A count of 0 is not known yet, so any will do.
+// Whether the frame's count may be the batch's. A count of 0 is not known yet, so any will do.
+fn counted(x: &[u32], count: u32) -> bool
+    requires { ⌜ SoundInbox (now x) ⌝ }
+    ensures { λ r. ⌜ Tells r ((countOf (now (x .entry)) ≡ 0) ⊎ (countOf (now (x .entry)) ≡ count)) ⌝ }
+{
+    if x[1] == 0 {
+        return true;
+    }
+    x[1] == count
+}
+
+// Whether the frame puts no zero: 0 minutes would later read like a release.
+fn worth(f: Frame) -> bool
+    ensures { λ r. ⌜ Tells r (¬ PutsZero (fieldsOf f)) ⌝ }
+{
+    if f.kind != 1 {
+        return true;
+    }
+    0 < f.value
+}
+
+// Whether the frame is of the batch that is heard, and may be taken: a repeat is asked no less.
 fn belongs(x: &[u32], f: Frame) -> u32
     requires { ⌜ SoundInbox (now x) ⌝ }
     ensures { λ r. ⌜ Belongs (now (x .entry)) f r ⌝ }
@@ -129,11 +154,11 @@ fn belongs(x: &[u32], f: Frame) -> u32
     if f.batch != x[0] {
         return BATCH;
     }
-    if x[1] == 0 {
-        return 0;
-    }
-    if x[1] != f.count {
+    if !counted(x, f.count) {
         return COUNT;
+    }
+    if !worth(f) {
+        return ZERO;
     }
     0
 }

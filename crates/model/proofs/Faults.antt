@@ -228,7 +228,8 @@ module _ (s : Step) (v : ℕ) (line : List ℕ) where
   says-given I (fault n p) e u = faulty I (e ∙ sym (ap (λ (h : Heard). fault (h .number) (h .place)) (u .0)))
   says-given I (good f) e (fails p u) = answered (u .0) refl refl (λ _. (f, e))
   says-given I (good f) e (passes p (fails q u)) = answered (u .0) refl refl (λ _. (f, e))
-  says-given I (good f) e (passes p (passes q T)) = takes-given f e (heardAt (s .inbox) (f .index)) T
+  says-given I (good f) e (passes p (passes q (fails w u))) = answered (u .0) refl refl (λ _. (f, e))
+  says-given I (good f) e (passes p (passes q (passes w T))) = takes-given f e (heardAt (s .inbox) (f .index)) T
 
   pub receive-numbers : Receive s v line → Given
   receive-numbers (fails p u) = answered (u .0) refl refl (λ I. absurd (p (I .block .shaped)))

@@ -1,5 +1,6 @@
 -- The frames of a delta.
 use mathlib.Core.Path.{_≡_, refl, ap, _∙_}
+use mathlib.Core.Logic.{_↔_}
 use Prim.Native.Nat.{ℕ, zero, suc, _+_, _^_, _≤_, _<_}
 use mathlib.Core.Bool.{true}
 use mathlib.Core.Option.{Option, none, some}
@@ -71,6 +72,25 @@ frames-count batch [] (suc i) h = absurd (omega arith)
 frames-count batch (c ∷ cs) i h =
     let l = frames-length batch (c ∷ cs) (omega arith) in
     rw (l, frame-at batch (c ∷ cs) i (omega arith)) (frame-numbered batch (length (c ∷ cs)) i (changeAt (c ∷ cs) i))
+
+-- a put says what its change sets, and is the put of a change
+frame-sets : (batch count i v : ℕ) (c : Change) → ((frameOf batch count i c .kind ≡ 1) × (frameOf batch count i c .value ≡ v)) ↔ (c .now ≡ some v)
+unfolding frameOf
+frame-sets batch count i v c = go (c .now) refl
+  where
+    go : (o : Option ℕ) → c .now ≡ o → ((frameOf batch count i c .kind ≡ 1) × (frameOf batch count i c .value ≡ v)) ↔ (c .now ≡ some v)
+    go none e = rw (e, frameOf) ((λ z. absurd (omega (arith, z .0))), (λ z. let u : _≡_ {A = ℕ} 0 1 = cc z in absurd (omega arith)))
+    go (some w) e = rw (e, frameOf) ((λ z. ap some (z .1)), (λ z. (refl, cc z)))
+
+pub frames-set : (batch : ℕ) (cs : List Change) (i v : ℕ) → i < length (framesOf batch cs)
+    → ((frameAt (framesOf batch cs) i .kind ≡ 1) × (frameAt (framesOf batch cs) i .value ≡ v)) ↔ ((i < length cs) × (changeAt cs i .now ≡ some v))
+unfolding framesOf
+frames-set batch [] zero v h = ((λ z. absurd (omega (arith, z .0))), (λ z. absurd (omega (arith, z .0))))
+frames-set batch [] (suc i) v h = absurd (omega arith)
+frames-set batch (c ∷ cs) i v h =
+    let l : i < length (c ∷ cs) = omega (arith, frames-length batch (c ∷ cs) (omega arith)) in
+    let F = frame-sets batch (length (c ∷ cs)) i v (changeAt (c ∷ cs) i) in
+    rw (frame-at batch (c ∷ cs) i l) ((λ z. (l, F .0 z)), (λ z. F .1 (z .1)))
 
 -- each frame is legal
 pub frames-legal : (batch : ℕ) (cs : List Change) → length cs ≤ 4096 → (i : ℕ) → i < length (framesOf batch cs) → legal (frameAt (framesOf batch cs) i) ≡ true

@@ -68,3 +68,4 @@ pub mod Checks
 pub mod Once
 pub mod Meanings
 pub mod Refusals
+pub mod Zeros

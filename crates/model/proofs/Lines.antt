@@ -184,18 +184,18 @@ way cs = first (ℕ-discrete (length cs) 35) (ℕ-discrete (getD cs 34 0) 10)
     first (yes l) (no ne) = no-form (λ C. ne (C .newline))
     first (no ne) n = no-form (λ C. ne (C .long))
 
--- a fault's number is none below FRAME
-pub fault-least : (cs : List ℕ) (n p : ℕ) → read cs ≡ fault n p → FRAME ≤ n
-fault-least cs n p e = go (read cs) (way cs) e
+-- a fault's number is none below FRAME or above RANGE
+pub fault-range : (cs : List ℕ) (n p : ℕ) → read cs ≡ fault n p → (FRAME ≤ n) × (n ≤ RANGE)
+fault-range cs n p e = go (read cs) (way cs) e
   where
     same : {m q : ℕ} → fault m q ≡ fault n p → m ≡ n
     same e = cc e
 
-    go : (r : Reading) → Way cs r → r ≡ fault n p → FRAME ≤ n
-    go r (opened o) e = omega (arith, same e)
-    go r (unread C u) e = omega (arith, same e)
-    go r (unknown C f u h) e = omega (arith, same e)
-    go r (unruly C f u h l) e = omega (arith, same e)
+    go : (r : Reading) → Way cs r → r ≡ fault n p → (FRAME ≤ n) × (n ≤ RANGE)
+    go r (opened o) e = (omega (arith, same e), omega (arith, same e))
+    go r (unread C u) e = (omega (arith, same e), omega (arith, same e))
+    go r (unknown C f u h) e = (omega (arith, same e), omega (arith, same e))
+    go r (unruly C f u h l) e = (omega (arith, same e), omega (arith, same e))
     go r (whole C f u l) e = let z : _≡_ {A = ℕ} 0 1 = cc e in absurd (omega arith)
 
 -- a reading that is good is the line's frame, and no other

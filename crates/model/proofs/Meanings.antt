@@ -33,6 +33,7 @@ pub record Done (b after : List ℕ) (e : Edit) (a : Answer) : Type 0 where
   pub sound : SoundBlock b
   pub versions : Versions (e .versions)
   pub legal : e .legal ≡ true
+  pub positive : e .positive ≡ true
   pub fits : e .fits ≡ true
   pub enough : short (e .rule (supply (heap b)) .1) ≡ false
   pub is : a ≡ e .answer
@@ -43,9 +44,10 @@ edit-done {a = a} e (fails p r) z = absurd (refused-number a 0 (r .0) z)
 edit-done {a = a} e (passes p (fails q r)) z = absurd (refused-number a 1 (r .0) z)
 edit-done {a = a} e (passes p (passes q (fails u r))) z = absurd (refused-number a 2 (r .0) z)
 edit-done {a = a} e (passes p (passes q (passes u (fails l r)))) z = absurd (refused-number a 3 (r .0) z)
-edit-done {a = a} e (passes p (passes q (passes u (passes l (fails f r))))) z = absurd (refused-number a 13 (r .0) z)
-edit-done {a = a} e (passes p (passes q (passes u (passes l (passes f (fails m r)))))) z = absurd (refused-number a 4 (r .0) z)
-edit-done e (passes p (passes q (passes u (passes l (passes f (passes m r)))))) z = record { sound = q; versions = u; legal = l; fits = f; enough = m; is = r .0; edited = r .1 }
+edit-done {a = a} e (passes p (passes q (passes u (passes l (fails o r))))) z = absurd (refused-number a 12 (r .0) z)
+edit-done {a = a} e (passes p (passes q (passes u (passes l (passes o (fails f r)))))) z = absurd (refused-number a 13 (r .0) z)
+edit-done {a = a} e (passes p (passes q (passes u (passes l (passes o (passes f (fails m r))))))) z = absurd (refused-number a 4 (r .0) z)
+edit-done e (passes p (passes q (passes u (passes l (passes o (passes f (passes m r))))))) z = record { sound = q; versions = u; legal = l; positive = o; fits = f; enough = m; is = r .0; edited = r .1 }
 
 -- a refused edit changes nothing
 pub refused-edit-changes-nothing : {b after : List ℕ} {a : Answer} (e : Edit) → e .answer .number ≡ 0 → Edits b after e a → a .number ≢ 0 → after ≡ b
@@ -53,9 +55,10 @@ refused-edit-changes-nothing e w (fails p r) z = r .1
 refused-edit-changes-nothing e w (passes p (fails q r)) z = r .1
 refused-edit-changes-nothing e w (passes p (passes q (fails u r))) z = r .1
 refused-edit-changes-nothing e w (passes p (passes q (passes u (fails l r)))) z = r .1
-refused-edit-changes-nothing e w (passes p (passes q (passes u (passes l (fails f r))))) z = r .1
-refused-edit-changes-nothing e w (passes p (passes q (passes u (passes l (passes f (fails m r)))))) z = r .1
-refused-edit-changes-nothing e w (passes p (passes q (passes u (passes l (passes f (passes m r)))))) z = absurd (z (ap (λ (x : Answer). x .number) (r .0) ∙ w))
+refused-edit-changes-nothing e w (passes p (passes q (passes u (passes l (fails o r))))) z = r .1
+refused-edit-changes-nothing e w (passes p (passes q (passes u (passes l (passes o (fails f r)))))) z = r .1
+refused-edit-changes-nothing e w (passes p (passes q (passes u (passes l (passes o (passes f (fails m r))))))) z = r .1
+refused-edit-changes-nothing e w (passes p (passes q (passes u (passes l (passes o (passes f (passes m r))))))) z = absurd (z (ap (λ (x : Answer). x .number) (r .0) ∙ w))
 
 -- no other version's entries change, whatever the answer
 pub others-keep-their-entries : {b after : List ℕ} {a : Answer} (e : Edit) → e .answer .number ≡ 0 → Edits b after e a → (v : ℕ) → v < 16 → v ≢ e .dst → entries (version (heap after) v) ≡ entries (version (heap b) v)

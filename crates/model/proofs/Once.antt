@@ -34,8 +34,8 @@ reads-once b versions answer a c A C = check-once A C same (λ A C. check-once A
 
 -- a call that edits
 pub edits-once : (b x y : List ℕ) (e : Edit) (a c : Answer) → Words x → Words y → Edits b x e a → Edits b y e c → (a ≡ c) × (x ≡ y)
-edits-once b x y e a c wx wy A C = check-once A C kept (λ A C. check-once A C kept (λ A C. check-once A C kept (λ A C. check-once A C kept (λ A C. check-once A C kept (λ A C. check-once A C kept
-    (λ A C. (A .0 ∙ sym (C .0), edited-once b x y (e .dst) _ (A .1) (C .1) wx wy)))))))
+edits-once b x y e a c wx wy A C = check-once A C kept (λ A C. check-once A C kept (λ A C. check-once A C kept (λ A C. check-once A C kept (λ A C. check-once A C kept (λ A C. check-once A C kept (λ A C. check-once A C kept
+    (λ A C. (A .0 ∙ sym (C .0), edited-once b x y (e .dst) _ (A .1) (C .1) wx wy))))))))
   where
     kept : {z : Answer} → (a ≡ z) × (x ≡ b) → (c ≡ z) × (y ≡ b) → (a ≡ c) × (x ≡ y)
     kept p q = (p .0 ∙ sym (q .0), p .1 ∙ sym (q .1))
@@ -84,7 +84,7 @@ module _ (b x b1 b2 x1 x2 : List ℕ) (v : ℕ) (a c : Heard) (w1 : Words b1) (w
 
   says-once : (said : Reading) → Says s v said → Says t v said → Same
   says-once (fault n p) A C = unchanged-once A C
-  says-once (good f) A C = check-once A C unchanged-once (λ A C. check-once A C unchanged-once (takes-once f (heardAt x (f .index))))
+  says-once (good f) A C = check-once A C unchanged-once (λ A C. check-once A C unchanged-once (λ A C. check-once A C unchanged-once (takes-once f (heardAt x (f .index)))))
 
   pub receive-once : (line : List ℕ) → Receive s v line → Receive t v line → Same
   receive-once line A C = check-once A C unchanged-once (λ A C. check-once A C unchanged-once (λ A C. check-once A C unchanged-once (λ A C. check-once A C unchanged-once (λ A C. check-once A C unchanged-once (says-once (read line))))))

@@ -1,14 +1,14 @@
 -- The premises of `standby-replicates` (Standbys) can be met: by a put and a remove that carry one small block to the next, and, whatever the block, by the one frame "nothing".
 use mathlib.Core.Path.{_≡_, refl, ap, sym, subst, _∙_}
-use mathlib.Core.Logic.{inl, inr}
-use Prim.Native.Nat.{ℕ, zero, suc, _^_, _<_}
+use mathlib.Core.Logic.{_≢_, inl, inr}
+use Prim.Native.Nat.{ℕ, zero, suc, _^_, _<_, compare, Ordering, Ordering·lt, Ordering·eq, Ordering·gt}
 use mathlib.Core.Bool.{false}
 use mathlib.Core.Option.{some}
 use mathlib.Core.List.{List, [], _∷_}
 use lib.ListN.{length}
 use lib.Dec.{eqb}
 use native.Mathlib.Omega.{arith}
-use Rattle.model.specs.Tree.{Tree, size, idOf, lookup, entries}
+use Rattle.model.specs.Tree.{Tree, leaf, node, size, idOf, lookup, entries, cut, find}
 use Rattle.model.specs.Supply.{firstOf, afterFirst, isNone, among, next, taken, back, given, short}
 use Rattle.model.specs.Rules.{balanced, insertBy, insert, withoutKey, removePresent, remove}
 use Rattle.model.specs.Listing.{turn, tooDeep, walk, listing}
@@ -19,7 +19,7 @@ use Rattle.model.specs.Frame.{Frame, line, legal, kindLegal, good, parse
 use Rattle.model.specs.Inbox.{heardAt, SoundInbox, begun, marked, missing, Complete}
 use Rattle.model.specs.Calls.{passes, Edited}
 use Rattle.model.specs.Link.{Step, frameRule, Takes, Says, Receive}
-use Rattle.model.specs.Replica.{Elsewhere, Hearing, still, then, Each, Some, Took, Genuine, Replicated}
+use Rattle.model.specs.Replica.{NoZeroSent, Elsewhere, Hearing, still, then, Each, Some, Took, Genuine, Replicated}
 use Rattle.model.proofs.Turns.{same-lists-nothing}
 use Rattle.model.proofs.Growing.{stocked-supply}
 use Rattle.model.proofs.Lines.{good-parse, parse-line}
@@ -44,7 +44,7 @@ module _ {b b′ x : List ℕ} {v : ℕ} (f : Frame) (B : SoundBlock b) (X : Sou
   received : Receive step v (line f)
   received =
       let takes : Takes step v f (heardAt x (f .index)) = subst (Takes step v f) (sym new) (passes room (refl, E, refl)) in
-      let says : Says step v (good f) = passes (W .batch) (passes (W .counts) takes) in
+      let says : Says step v (good f) = passes (W .batch) (passes (W .counts) (passes (W .worth) takes)) in
       passes (B .shaped) (passes (X .long) (passes B (passes X (passes lt (subst (Says step v) (sym (good-parse (line f) f .0 said)) says)))))
 
 -- A put and a remove.
@@ -59,6 +59,16 @@ removing = record { batch = 7; index = 1; count = 2; kind = 2; key = 1; value = 
 carried : (frames 7 (version (heap before) 0) (version (heap before) 1) ≡ putting ∷ removing ∷ []) × (deltaDeep (version (heap before) 0) (version (heap before) 1) ≡ false)
 unfolding size idOf turn tooDeep walk listing changed puts removes delta deltaDeep frameOf numbered framesOf
 carried = rw (before-trees .0, before-trees .1) (refl, refl)
+
+-- and put no zero
+none-zero : (k : ℕ) → find (entries (node 2 2 4294967295 leaf leaf)) k ≢ some 0
+unfolding entries cut
+none-zero k e = go (compare k 2) refl
+  where
+    go : (o : Ordering) → compare k 2 ≡ o → ⊥
+    go Ordering·lt p = let z : _≡_ {A = ℕ} 0 1 = cc (rw (p, find) at e) in omega arith
+    go Ordering·eq p = let z : _≡_ {A = ℕ} 4294967295 0 = cc (rw (p, find) at e) in omega arith
+    go Ordering·gt p = let z : _≡_ {A = ℕ} 0 1 = cc (rw (p, find) at e) in omega arith
 
 put-said : parse (line putting) ≡ some putting
 unfolding legal kindLegal
@@ -86,11 +96,11 @@ first : Markable (begun 7) 2 0
 first = record { sound = begun-sound 7; small = omega arith; below = omega arith; counts = inl (begun-count 7); new = begun-heard 7 0 }
 
 put-received : Receive (record { block = before; inbox = begun 7; block′ = amid; inbox′ = half; answer = record { number = 0; again = 0; missing = missing half; place = 0 } }) 0 (line putting)
-put-received = received putting before-sound (begun-sound 7) (omega arith) put-said (record { batch = sym (begun-batch 7); counts = inl (begun-count 7) }) (begun-heard 7 0) (put-done .0)
+put-received = received putting before-sound (begun-sound 7) (omega arith) put-said (record { batch = sym (begun-batch 7); counts = inl (begun-count 7); worth = λ z. omega (arith, z .1) }) (begun-heard 7 0) (put-done .0)
     (record { sound = amid-sound; room-kept = unfold before amid in refl; here = sym (put-done .1); others = amid-others })
 
 remove-received : Receive (record { block = amid; inbox = half; block′ = done; inbox′ = whole; answer = record { number = 0; again = 0; missing = missing whole; place = 0 } }) 0 (line removing)
-remove-received = received removing amid-sound (marked-sound first) (omega arith) remove-said (record { batch = sym (marked-batch first ∙ begun-batch 7); counts = inr (marked-count first) })
+remove-received = received removing amid-sound (marked-sound first) (omega arith) remove-said (record { batch = sym (marked-batch first ∙ begun-batch 7); counts = inr (marked-count first); worth = λ z. omega (arith, z .0) })
     (ap (λ n. eqb n 1) (marked-other first 1 (omega arith)) ∙ begun-heard 7 1) (remove-done .0)
     (record { sound = done-sound; room-kept = unfold amid done in refl; here = sym (remove-done .1); others = done-others })
 
@@ -105,8 +115,11 @@ replication-happens = (R, C, R .equal C)
     genuine : Each (Genuine (frames 7 (version (heap before) 0) (version (heap before) 1))) run
     genuine = rw (carried .0) ((λ z. (0, omega arith, put-said)), ((λ z. (1, omega arith, remove-said)), tt))
 
+    no-zero : NoZeroSent (version (heap before) 0) (version (heap before) 1)
+    no-zero k e = absurd (none-zero k (rw (before-trees .1) at e))
+
     R : Replicated (version (heap before) 0) (version (heap before) 1) 7 0 run
-    R = standby-replicates before before-sound 0 1 7 (omega arith) (omega arith) (omega arith) (carried .1) before before-sound 0 (omega arith) refl run genuine
+    R = standby-replicates before before-sound 0 1 7 (omega arith) (omega arith) (omega arith) (carried .1) before before-sound 0 (omega arith) refl run genuine no-zero
 
     accepted : (i : ℕ) → i < length (frames 7 (version (heap before) 0) (version (heap before) 1)) → Some (Took (frames 7 (version (heap before) 0) (version (heap before) 1)) i) run
     accepted i h = rw (carried .0) (go i (rw (carried .0) at h))
@@ -135,7 +148,7 @@ module _ (b : List ℕ) (B : SoundBlock b) (v batch : ℕ) (lt : v < 16) (fits :
 
   quiet : Receive (record { block = b; inbox = begun batch; block′ = b; inbox′ = heard; answer = record { number = 0; again = 0; missing = missing heard; place = 0 } }) v (line (nothing batch))
   unfolding frameRule
-  quiet = received (nothing batch) B (begun-sound batch) lt said (record { batch = sym (begun-batch batch); counts = inl (begun-count batch) }) (begun-heard batch 0)
+  quiet = received (nothing batch) B (begun-sound batch) lt said (record { batch = sym (begun-batch batch); counts = inl (begun-count batch); worth = λ z. omega (arith, z .0) }) (begun-heard batch 0)
       (stocked-supply (heap b) .enough) (record { sound = B; room-kept = refl; here = refl; others = λ w l ne. refl })
 
   pub nothing-run : Hearing (Elsewhere v) v b (begun batch) (line (nothing batch) ∷ []) b heard
@@ -153,7 +166,7 @@ module _ (b : List ℕ) (B : SoundBlock b) (v batch : ℕ) (lt : v < 16) (fits :
       one = rw (same-delta t .0) refl
 
       R : Replicated t t batch v nothing-run
-      R = standby-replicates b B v v batch lt lt fits (same-delta t .1) b B v lt refl nothing-run (rw one ((λ z. (0, omega arith, said)), tt))
+      R = standby-replicates b B v v batch lt lt fits (same-delta t .1) b B v lt refl nothing-run (rw one ((λ z. (0, omega arith, said)), tt)) (λ k e. e)
 
       accepted : (i : ℕ) → i < length (frames batch t t) → Some (Took (frames batch t t) i) nothing-run
       accepted i h = rw one (go i (rw one at h))

@@ -17,7 +17,7 @@ use Rattle.model.specs.Calls.{Versions}
 use Rattle.model.specs.Lists.{rowWords, Report, Lists, listed, framed}
 use Rattle.model.specs.Inbox.{begun}
 use Rattle.model.specs.Link.{Step}
-use Rattle.model.specs.Replica.{Elsewhere, Hearing, still, then, Each, Genuine, Replicated}
+use Rattle.model.specs.Replica.{NoZeroSent, Elsewhere, Hearing, still, then, Each, Genuine, Replicated}
 use Rattle.model.proofs.Compare.{cmp-eq}
 use Rattle.model.proofs.Loads.{tree-ind}
 use Rattle.model.proofs.Members.{in-at, in-either}
@@ -135,10 +135,11 @@ each-map (then answer h r later) f p = (f _ _ (p .0), each-map later f (p .1))
 pub frames-replicate : (primary out after : List ℕ) (A B batch start : ℕ) (r : Report) → Words primary → batch < 2 ^ 32 → Lists primary out after start (framed primary A B batch) r → r .number ≡ 0
     → (b : List ℕ) → SoundBlock b → (v : ℕ) → v < 16 → entries (version (heap b) v) ≡ entries (version (heap primary) A)
     → {lines : List (List ℕ)} {c y : List ℕ} (run : Hearing (Elsewhere v) v b (begun batch) lines c y) → Each (λ s line. s .answer .number ≡ 0 → Sent primary A B batch line) run
+    → NoZeroSent (version (heap primary) A) (version (heap primary) B)
     → Replicated (version (heap primary) A) (version (heap primary) B) batch v run × (r .total ≡ length (frames batch (version (heap primary) A) (version (heap primary) B)))
-frames-replicate primary out after A B batch start r W fits L z b S v lt holds run sent =
+frames-replicate primary out after A B batch start r W fits L z b S v lt holds run sent worth =
     let G = frames-given primary W batch fits out after A B start r L z in
-    (standby-replicates primary (G .0) A B batch (G .1) (G .2) fits (G .3) b S v lt holds run (each-map run genuine sent), G .4)
+    (standby-replicates primary (G .0) A B batch (G .1) (G .2) fits (G .3) b S v lt holds run (each-map run genuine sent) worth, G .4)
   where
     genuine : (s : Step) (line : List ℕ) → (s .answer .number ≡ 0 → Sent primary A B batch line) → Genuine (frames batch (version (heap primary) A) (version (heap primary) B)) s line
     genuine s line f e =

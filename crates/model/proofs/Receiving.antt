@@ -15,14 +15,15 @@ use Rattle.model.specs.Frame.{Frame, Reading, good, fault, read, parse}
 use Rattle.model.specs.Inbox.{batchOf, countOf, heardAt, SoundInbox, marked, missing, question, Complete}
 use Rattle.model.specs.Numbers.{NO_ROOM}
 use Rattle.model.specs.Calls.{fails, passes, Edited}
-use Rattle.model.specs.Link.{Missing, Heard, frameRule, Step, turnedAway, Takes, Says, Receive}
-use Rattle.model.proofs.Lines.{Legal, legal-exactly, fault-least, good-parse, parse-only}
+use Rattle.model.specs.Link.{Missing, Heard, frameRule, Step, turnedAway, Takes, PutsZero, Says, Receive}
+use Rattle.model.proofs.Lines.{Legal, legal-exactly, fault-range, good-parse, parse-only}
 use Rattle.model.proofs.Heard.{Markable, marked-count, marked-sound}
 
--- the line's frame belongs to the inbox's batch, and its count does not differ
+-- the line's frame belongs to the inbox's batch, its count does not differ, and it puts no zero
 pub record Belongs (x : List ℕ) (f : Frame) : Type 0 where
   pub batch : f .batch ≡ batchOf x
   pub counts : (countOf x ≡ 0) ⊎ (countOf x ≡ f .count)
+  pub worth : ¬ PutsZero f
 
 -- accepted, as a repeat (1) or not (0): the answer has as missing what the inbox then lacks
 pub record Accepted (s : Step) (n : ℕ) : Type 0 where
@@ -51,10 +52,11 @@ module _ (s : Step) (v : ℕ) where
   taken f q B false e (passes p u) = new f q B e (accepted (marked (s .inbox) (f .count) (f .index)) (u .0) (u .2)) p (u .1) (u .2)
 
   says-outcome : (line : List ℕ) (r : Reading) → read line ≡ r → Says s v r → Outcome s v (parse line)
-  says-outcome line (fault n p) e u = away (λ z. omega (arith, fault-least line n p e, sym (ap (λ (a : Heard). a .number) (u .0)) ∙ z)) (u .1) (u .2)
+  says-outcome line (fault n p) e u = away (λ z. omega (arith, fault-range line n p e .0, sym (ap (λ (a : Heard). a .number) (u .0)) ∙ z)) (u .1) (u .2)
   says-outcome line (good f) e (fails p u) = turned u
   says-outcome line (good f) e (passes p (fails q u)) = turned u
-  says-outcome line (good f) e (passes p (passes q T)) = taken f (good-parse line f .1 e) (record { batch = p; counts = q }) (heardAt (s .inbox) (f .index)) refl T
+  says-outcome line (good f) e (passes p (passes q (fails w u))) = turned u
+  says-outcome line (good f) e (passes p (passes q (passes w T))) = taken f (good-parse line f .1 e) (record { batch = p; counts = q; worth = w }) (heardAt (s .inbox) (f .index)) refl T
 
   pub receive-outcome : (line : List ℕ) → Receive s v line → Outcome s v (parse line)
   receive-outcome line (fails p u) = turned u
@@ -64,15 +66,19 @@ module _ (s : Step) (v : ℕ) where
   receive-outcome line (passes a (passes c (passes d (passes e (fails p u))))) = turned u
   receive-outcome line (passes a (passes c (passes d (passes e (passes g T))))) = says-outcome line (read line) refl T
 
-  -- a frame of the batch, on a sound block and inbox, is refused only for room
+  -- on a sound block and inbox the line decides
+  pub receive-says : (line : List ℕ) → SoundBlock (s .block) → SoundInbox (s .inbox) → v < 16 → Receive s v line → Says s v (read line)
+  receive-says line B X lt (fails p u) = absurd (p (B .shaped))
+  receive-says line B X lt (passes a (fails p u)) = absurd (p (X .long))
+  receive-says line B X lt (passes a (passes c (fails p u))) = absurd (p B)
+  receive-says line B X lt (passes a (passes c (passes d (fails p u)))) = absurd (p X)
+  receive-says line B X lt (passes a (passes c (passes d (passes g (fails p u))))) = absurd (p lt)
+  receive-says line B X lt (passes a (passes c (passes d (passes g (passes h T))))) = T
+
+  -- a frame of the batch, there, is refused only for room
   pub belongs-only-room : (line : List ℕ) (f : Frame) → SoundBlock (s .block) → SoundInbox (s .inbox) → v < 16 → Receive s v line → parse line ≡ some f → Belongs (s .inbox) f
       → (s .answer .number ≡ 0) ⊎ (s .answer .number ≡ NO_ROOM)
-  belongs-only-room line f B X lt (fails p u) e W = absurd (p (B .shaped))
-  belongs-only-room line f B X lt (passes a (fails p u)) e W = absurd (p (X .long))
-  belongs-only-room line f B X lt (passes a (passes c (fails p u))) e W = absurd (p B)
-  belongs-only-room line f B X lt (passes a (passes c (passes d (fails p u)))) e W = absurd (p X)
-  belongs-only-room line f B X lt (passes a (passes c (passes d (passes g (fails p u))))) e W = absurd (p lt)
-  belongs-only-room line f B X lt (passes a (passes c (passes d (passes g (passes h T))))) e W = says (subst (Says s v) (good-parse line f .0 e) T)
+  belongs-only-room line f B X lt R e W = says (subst (Says s v) (good-parse line f .0 e) (receive-says line B X lt R))
     where
       number : {a : Heard} → s .answer ≡ a → s .answer .number ≡ a .number
       number q = ap (λ (a : Heard). a .number) q
@@ -85,7 +91,20 @@ module _ (s : Step) (v : ℕ) where
       says : Says s v (good f) → (s .answer .number ≡ 0) ⊎ (s .answer .number ≡ NO_ROOM)
       says (fails p u) = absurd (p (W .batch))
       says (passes p (fails q u)) = absurd (q (W .counts))
-      says (passes p (passes q T)) = takes (heardAt (s .inbox) (f .index)) T
+      says (passes p (passes q (fails w u))) = absurd (w (W .worth))
+      says (passes p (passes q (passes w T))) = takes (heardAt (s .inbox) (f .index)) T
+
+  -- a put of 0 is never accepted, new or repeat
+  pub zero-refused : (line : List ℕ) (f : Frame) → Receive s v line → parse line ≡ some f → PutsZero f → s .answer .number ≢ 0
+  zero-refused line f R e Z z = go (receive-outcome line R)
+    where
+      no : (g : Frame) → parse line ≡ some g → Belongs (s .inbox) g → ⊥
+      no g d B = let p : f ≡ g = cc (sym e ∙ d) in B .worth (subst PutsZero p Z)
+
+      go : Outcome s v (parse line) → ⊥
+      go (away n b x) = n z
+      go (again g d B h a b x) = no g d B
+      go (new g d B h a r E x) = no g d B
 
   -- only lines of the inbox's batch change block or inbox
   pub foreign-changes-nothing : (line : List ℕ) → ((f : Frame) → parse line ≡ some f → f .batch ≢ batchOf (s .inbox)) → Receive s v line → (s .block′ ≡ s .block) × (s .inbox′ ≡ s .inbox)

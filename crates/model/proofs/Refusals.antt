@@ -7,26 +7,27 @@ use mathlib.Core.Option.{Option, none, some}
 use mathlib.Core.List.{List, [], _∷_}
 use lib.ListN.{length}
 use lib.Dec.{eqb, leb}
-use borrow.Author.Tests.{leb-false, lt-leb, le-leb, eqb-true, eq-eqb}
+use borrow.Author.Tests.{ltb-false, le-ltb, leb-false, lt-leb, le-leb, eqb-true, eq-eqb}
 use native.Mathlib.Omega.{arith}
+use native.Mathlib.Decide.{ℕ-discrete}
 use Rattle.model.specs.Tree.{entries, height, lookup}
 use Rattle.model.specs.Supply.{short}
 use Rattle.model.specs.Rules.{remove}
 use Rattle.model.specs.Heap.{version, free, supply}
 use Rattle.model.specs.Block.{room, heap, Shaped, SoundBlock}
 use Rattle.model.specs.Frame.{Frame, Reading, good, fault, read, parse}
-use Rattle.model.specs.Inbox.{heardAt, SoundInbox, begun}
-use Rattle.model.specs.Numbers.{SHAPE, DAMAGED, VERSION, RULE, SUM, NO_ROOM}
+use Rattle.model.specs.Inbox.{batchOf, countOf, heardAt, SoundInbox, begun}
+use Rattle.model.specs.Numbers.{SHAPE, DAMAGED, VERSION, RULE, ZERO, SUM, NO_ROOM}
 use Rattle.model.specs.Calls.{fails, passes, Answer, finding, Versions, Edit, Edits, Fitting, inserting, removing, copying, clearing, uniting, lessening}
-use Rattle.model.specs.Link.{Begin, Heard, frameRule, Step, Takes, Says, Receive}
+use Rattle.model.specs.Link.{Begin, Heard, frameRule, Step, Takes, PutsZero, Says, Receive}
 use Rattle.model.proofs.Tests.{not-true, not-false}
 use Rattle.model.proofs.Sorts.{ordered-sorted}
 use Rattle.model.proofs.Fits.{Exceeds, unfit-means, means-unfit}
 use Rattle.model.proofs.Versions.{version-ordered}
 use Rattle.model.proofs.Room.{insert-room, remove-room}
 use Rattle.model.proofs.Growing.{stocked-supply}
-use Rattle.model.proofs.Lines.{fault-least, good-parse}
-use Rattle.model.proofs.Receiving.{Belongs, Outcome, away, again, new, receive-outcome, belongs-only-room}
+use Rattle.model.proofs.Lines.{fault-range, good-parse}
+use Rattle.model.proofs.Receiving.{Belongs, Outcome, away, again, new, receive-outcome, receive-says, belongs-only-room}
 
 -- the edits that are calls
 pub data Called (b : List ℕ) : Edit → Type 0 where
@@ -41,7 +42,7 @@ found-number : (o : Option ℕ) → finding o .number ≡ 0
 found-number none = refl
 found-number (some v) = refl
 
-done-number : {b : List ℕ} {e : Edit} → Called b e → e .answer .number ≡ 0
+pub done-number : {b : List ℕ} {e : Edit} → Called b e → e .answer .number ≡ 0
 done-number {b} (inserts dst src key value) = found-number (lookup (version (heap b) src) key)
 done-number {b} (removes dst src key) = found-number (lookup (version (heap b) src) key)
 done-number (copies dst src) = refl
@@ -55,9 +56,10 @@ pub record Exactly (b : List ℕ) (e : Edit) (n : ℕ) : Type 0 where
   pub damaged : (n ≡ DAMAGED) ↔ (Shaped b × (SoundBlock b → ⊥))
   pub version : (n ≡ VERSION) ↔ (SoundBlock b × (Versions (e .versions) → ⊥))
   pub rule : (n ≡ RULE) ↔ (SoundBlock b × Versions (e .versions) × (e .legal ≡ false))
-  pub sum : (n ≡ SUM) ↔ (SoundBlock b × Versions (e .versions) × (e .legal ≡ true) × (e .fits ≡ false))
+  pub zero : (n ≡ ZERO) ↔ (SoundBlock b × Versions (e .versions) × (e .legal ≡ true) × (e .positive ≡ false))
+  pub sum : (n ≡ SUM) ↔ (SoundBlock b × Versions (e .versions) × (e .legal ≡ true) × (e .positive ≡ true) × (e .fits ≡ false))
   -- a make of the rule finds no free node
-  pub no-room : (n ≡ NO_ROOM) ↔ (SoundBlock b × Versions (e .versions) × (e .legal ≡ true) × (e .fits ≡ true) × (short (e .rule (supply (heap b)) .1) ≡ true))
+  pub no-room : (n ≡ NO_ROOM) ↔ (SoundBlock b × Versions (e .versions) × (e .legal ≡ true) × (e .positive ≡ true) × (e .fits ≡ true) × (short (e .rule (supply (heap b)) .1) ≡ true))
 
 -- a number that is given, and one that is not
 module _ {a : Answer} {X : Type 0} {k : ℕ} where
@@ -73,6 +75,7 @@ edit-numbers C (fails p r) = record {
   damaged = other (r .0) (omega arith) (λ x. p (x .0));
   version = other (r .0) (omega arith) (λ x. p (x .0 .shaped));
   rule = other (r .0) (omega arith) (λ x. p (x .0 .shaped));
+  zero = other (r .0) (omega arith) (λ x. p (x .0 .shaped));
   sum = other (r .0) (omega arith) (λ x. p (x .0 .shaped));
   no-room = other (r .0) (omega arith) (λ x. p (x .0 .shaped));
 }
@@ -81,6 +84,7 @@ edit-numbers C (passes p (fails q r)) = record {
   damaged = given (r .0) refl (p, q);
   version = other (r .0) (omega arith) (λ x. q (x .0));
   rule = other (r .0) (omega arith) (λ x. q (x .0));
+  zero = other (r .0) (omega arith) (λ x. q (x .0));
   sum = other (r .0) (omega arith) (λ x. q (x .0));
   no-room = other (r .0) (omega arith) (λ x. q (x .0));
 }
@@ -89,6 +93,7 @@ edit-numbers C (passes p (passes q (fails u r))) = record {
   damaged = other (r .0) (omega arith) (λ x. x .1 q);
   version = given (r .0) refl (q, u);
   rule = other (r .0) (omega arith) (λ x. u (x .1));
+  zero = other (r .0) (omega arith) (λ x. u (x .1));
   sum = other (r .0) (omega arith) (λ x. u (x .1));
   no-room = other (r .0) (omega arith) (λ x. u (x .1));
 }
@@ -97,32 +102,45 @@ edit-numbers {e = e} C (passes p (passes q (passes u (fails l r)))) = record {
   damaged = other (r .0) (omega arith) (λ x. x .1 q);
   version = other (r .0) (omega arith) (λ x. x .1 u);
   rule = given (r .0) refl (q, u, not-true (e .legal) l);
+  zero = other (r .0) (omega arith) (λ x. l (x .2));
   sum = other (r .0) (omega arith) (λ x. l (x .2));
   no-room = other (r .0) (omega arith) (λ x. l (x .2));
 }
-edit-numbers {e = e} C (passes p (passes q (passes u (passes l (fails f r))))) = record {
+edit-numbers {e = e} C (passes p (passes q (passes u (passes l (fails o r))))) = record {
   shape = other (r .0) (omega arith) (λ x. x p);
   damaged = other (r .0) (omega arith) (λ x. x .1 q);
   version = other (r .0) (omega arith) (λ x. x .1 u);
   rule = other (r .0) (omega arith) (λ x. true≢false (sym l ∙ x .2));
-  sum = given (r .0) refl (q, u, l, not-true (e .fits) f);
-  no-room = other (r .0) (omega arith) (λ x. f (x .3));
+  zero = given (r .0) refl (q, u, l, not-true (e .positive) o);
+  sum = other (r .0) (omega arith) (λ x. o (x .3));
+  no-room = other (r .0) (omega arith) (λ x. o (x .3));
 }
-edit-numbers {b} {e = e} C (passes p (passes q (passes u (passes l (passes f (fails m r)))))) = record {
+edit-numbers {e = e} C (passes p (passes q (passes u (passes l (passes o (fails f r)))))) = record {
   shape = other (r .0) (omega arith) (λ x. x p);
   damaged = other (r .0) (omega arith) (λ x. x .1 q);
   version = other (r .0) (omega arith) (λ x. x .1 u);
   rule = other (r .0) (omega arith) (λ x. true≢false (sym l ∙ x .2));
-  sum = other (r .0) (omega arith) (λ x. true≢false (sym f ∙ x .3));
-  no-room = given (r .0) refl (q, u, l, f, not-false (short (e .rule (supply (heap b)) .1)) m);
+  zero = other (r .0) (omega arith) (λ x. true≢false (sym o ∙ x .3));
+  sum = given (r .0) refl (q, u, l, o, not-true (e .fits) f);
+  no-room = other (r .0) (omega arith) (λ x. f (x .4));
 }
-edit-numbers {e = e} C (passes p (passes q (passes u (passes l (passes f (passes m r)))))) = record {
+edit-numbers {b} {e = e} C (passes p (passes q (passes u (passes l (passes o (passes f (fails m r))))))) = record {
+  shape = other (r .0) (omega arith) (λ x. x p);
+  damaged = other (r .0) (omega arith) (λ x. x .1 q);
+  version = other (r .0) (omega arith) (λ x. x .1 u);
+  rule = other (r .0) (omega arith) (λ x. true≢false (sym l ∙ x .2));
+  zero = other (r .0) (omega arith) (λ x. true≢false (sym o ∙ x .3));
+  sum = other (r .0) (omega arith) (λ x. true≢false (sym f ∙ x .4));
+  no-room = given (r .0) refl (q, u, l, o, f, not-false (short (e .rule (supply (heap b)) .1)) m);
+}
+edit-numbers {e = e} C (passes p (passes q (passes u (passes l (passes o (passes f (passes m r))))))) = record {
   shape = other (r .0) (is-done 1 (omega arith)) (λ x. x p);
   damaged = other (r .0) (is-done 2 (omega arith)) (λ x. x .1 q);
   version = other (r .0) (is-done 3 (omega arith)) (λ x. x .1 u);
   rule = other (r .0) (is-done 4 (omega arith)) (λ x. true≢false (sym l ∙ x .2));
-  sum = other (r .0) (is-done 14 (omega arith)) (λ x. true≢false (sym f ∙ x .3));
-  no-room = other (r .0) (is-done 5 (omega arith)) (λ x. true≢false (sym (x .4) ∙ m));
+  zero = other (r .0) (is-done 13 (omega arith)) (λ x. true≢false (sym o ∙ x .3));
+  sum = other (r .0) (is-done 14 (omega arith)) (λ x. true≢false (sym f ∙ x .4));
+  no-room = other (r .0) (is-done 5 (omega arith)) (λ x. true≢false (sym (x .5) ∙ m));
 }
   where
     is-done : (k : ℕ) → 0 < k → e .answer .number ≢ k
@@ -139,10 +157,16 @@ pub sum-exactly : {b after : List ℕ} {a : Answer} (dst left right rule : ℕ) 
 unfolding Versions
 sum-exactly {b} {after} {a} dst left right rule E = (
   (λ z. let x = edit-numbers (unites dst left right rule) E .sum .0 z in
-      let (four, exceeds) = unfit-means rule _ _ (ordered-sorted _ (version-ordered (x .0 .sound) left (x .1 .1 .0))) (λ t. true≢false (sym t ∙ x .3)) in
+      let (four, exceeds) = unfit-means rule _ _ (ordered-sorted _ (version-ordered (x .0 .sound) left (x .1 .1 .0))) (λ t. true≢false (sym t ∙ x .4)) in
       record { sound = x .0; versions = x .1; four = four; exceeds = exceeds }),
-  (λ (O : Oversum b dst left right rule). edit-numbers (unites dst left right rule) E .sum .1 (O .sound, O .versions, le-leb rule 4 (omega (arith, O .four)), not-true (uniting b dst left right rule .fits) (means-unfit rule _ _ (O .four) (O .exceeds)))),
+  (λ (O : Oversum b dst left right rule). edit-numbers (unites dst left right rule) E .sum .1 (O .sound, O .versions, le-leb rule 4 (omega (arith, O .four)), refl, not-true (uniting b dst left right rule .fits) (means-unfit rule _ _ (O .four) (O .exceeds)))),
 )
+
+-- insert answers ZERO exactly when block and versions are in order and the value is 0: whether the key is there or not, and whatever room there is
+pub zero-exactly : {b after : List ℕ} {a : Answer} (dst src key value : ℕ) → Edits b after (inserting b dst src key value) a → (a .number ≡ ZERO) ↔ (SoundBlock b × Versions (dst ∷ src ∷ []) × (value ≡ 0))
+zero-exactly dst src key value E =
+    let X = edit-numbers (inserts dst src key value) E .zero in
+    ((λ z. let x = X .0 z in (x .0, x .1, omega (arith, ltb-false 0 value (x .3)))), (λ x. X .1 (x .0, x .1, refl, le-ltb 0 value (omega (arith, x .2)))))
 
 -- union has rules 0 to 4
 pub union-rules : (b : List ℕ) (dst left right rule : ℕ) → (uniting b dst left right rule .legal ≡ false) ↔ (4 < rule)
@@ -160,20 +184,20 @@ difference-rules b dst left right rule cancel = (to cancel (leb rule 3) refl (eq
 
 -- copy and clear make nothing, so they find room always
 pub copy-finds-room : {b after : List ℕ} {a : Answer} (dst src : ℕ) → Edits b after (copying b dst src) a → a .number ≢ NO_ROOM
-copy-finds-room {b} dst src E z = true≢false (sym (edit-numbers (copies dst src) E .no-room .0 z .4) ∙ stocked-supply (heap b) .enough)
+copy-finds-room {b} dst src E z = true≢false (sym (edit-numbers (copies dst src) E .no-room .0 z .5) ∙ stocked-supply (heap b) .enough)
 
 pub clear-finds-room : {b after : List ℕ} {a : Answer} (v : ℕ) → Edits b after (clearing v) a → a .number ≢ NO_ROOM
-clear-finds-room {b} v E z = true≢false (sym (edit-numbers (clears v) E .no-room .0 z .4) ∙ stocked-supply (heap b) .enough)
+clear-finds-room {b} v E z = true≢false (sym (edit-numbers (clears v) E .no-room .0 z .5) ∙ stocked-supply (heap b) .enough)
 
 -- room that is enough: where three nodes are free for each level of the source's tree, and one more, an insert or a remove is not refused for it
 module _ {b after : List ℕ} {a : Answer} (dst src key : ℕ) (enough : 3 * height (version (heap b) src) + 1 ≤ length (free (heap b))) where
   pub insert-finds-room : (value : ℕ) → Edits b after (inserting b dst src key value) a → a .number ≢ NO_ROOM
   unfolding supply
-  insert-finds-room value E z = true≢false (sym (edit-numbers (inserts dst src key value) E .no-room .0 z .4) ∙ insert-room (version (heap b) src) key value (supply (heap b)) (stocked-supply (heap b) .enough) enough)
+  insert-finds-room value E z = true≢false (sym (edit-numbers (inserts dst src key value) E .no-room .0 z .5) ∙ insert-room (version (heap b) src) key value (supply (heap b)) (stocked-supply (heap b) .enough) enough)
 
   pub remove-finds-room : Edits b after (removing b dst src key) a → a .number ≢ NO_ROOM
   unfolding supply
-  remove-finds-room E z = true≢false (sym (edit-numbers (removes dst src key) E .no-room .0 z .4) ∙ remove-room (version (heap b) src) key (supply (heap b)) (stocked-supply (heap b) .enough) (omega (arith, enough)))
+  remove-finds-room E z = true≢false (sym (edit-numbers (removes dst src key) E .no-room .0 z .5) ∙ remove-room (version (heap b) src) key (supply (heap b)) (stocked-supply (heap b) .enough) (omega (arith, enough)))
 
 -- remove of an absent key acts as copy
 pub remove-absent : {b after : List ℕ} {a : Answer} (dst src key : ℕ) → lookup (version (heap b) src) key ≡ none → Edits b after (removing b dst src key) a → Edits b after (copying b dst src) a
@@ -216,9 +240,29 @@ pub record Crowded (s : Step) (v : ℕ) (line : List ℕ) : Type 0 where
   pub new : heardAt (s .inbox) (frame .index) ≡ false
   pub short : short (frameRule frame (version (heap (s .block)) v) (supply (heap (s .block))) .1) ≡ true
 
+-- Receive: ZERO exactly when all before it is in order and the line puts a zero, whether its index is heard or not, and whatever room there is.
+pub record Zeroed (s : Step) (v : ℕ) (line : List ℕ) : Type 0 where
+  pub block : SoundBlock (s .block)
+  pub inbox : SoundInbox (s .inbox)
+  pub known : v < 16
+  pub frame : Frame
+  pub said : parse line ≡ some frame
+  pub batch : frame .batch ≡ batchOf (s .inbox)
+  pub counts : (countOf (s .inbox) ≡ 0) ⊎ (countOf (s .inbox) ≡ frame .count)
+  pub zero : PutsZero frame
+
+-- a check of it that fails says that a zero is put
+not-worth : (f : Frame) → (¬ PutsZero f → ⊥) → PutsZero f
+not-worth f n = go (ℕ-discrete (f .kind) 1) (ℕ-discrete (f .value) 0)
+  where
+    go : Dec (f .kind ≡ 1) → Dec (f .value ≡ 0) → PutsZero f
+    go (yes k) (yes e) = (k, e)
+    go (no k) e = absurd (n (λ z. k (z .0)))
+    go (yes k) (no e) = absurd (n (λ z. e (z .1)))
+
 module _ (s : Step) (v : ℕ) (line : List ℕ) where
   -- the answer has another number
-  no : {a : Heard} → s .answer ≡ a → a .number ≢ NO_ROOM → s .answer .number ≡ NO_ROOM → ⊥
+  no : {a : Heard} {k : ℕ} → s .answer ≡ a → a .number ≢ k → s .answer .number ≡ k → ⊥
   no e ne z = ne (sym (ap (λ (a : Heard). a .number) e) ∙ z)
 
   takes-crowded : (f : Frame) → SoundBlock (s .block) → SoundInbox (s .inbox) → v < 16 → parse line ≡ some f → Belongs (s .inbox) f → (h : Bool) → heardAt (s .inbox) (f .index) ≡ h
@@ -229,10 +273,11 @@ module _ (s : Step) (v : ℕ) (line : List ℕ) where
   takes-crowded f B X lt e W false h (passes p u) z = absurd (no (u .0) (omega arith) z)
 
   says-crowded : SoundBlock (s .block) → SoundInbox (s .inbox) → v < 16 → (r : Reading) → read line ≡ r → Says s v r → s .answer .number ≡ NO_ROOM → Crowded s v line
-  says-crowded B X lt (fault n p) e u z = absurd (no (u .0) (λ five. omega (arith, five, fault-least line n p e)) z)
+  says-crowded B X lt (fault n p) e u z = absurd (no (u .0) (λ five. omega (arith, five, fault-range line n p e .0)) z)
   says-crowded B X lt (good f) e (fails p u) z = absurd (no (u .0) (omega arith) z)
   says-crowded B X lt (good f) e (passes p (fails q u)) z = absurd (no (u .0) (omega arith) z)
-  says-crowded B X lt (good f) e (passes p (passes q T)) z = takes-crowded f B X lt (good-parse line f .1 e) (record { batch = p; counts = q }) (heardAt (s .inbox) (f .index)) refl T z
+  says-crowded B X lt (good f) e (passes p (passes q (fails w u))) z = absurd (no (u .0) (omega arith) z)
+  says-crowded B X lt (good f) e (passes p (passes q (passes w T))) z = takes-crowded f B X lt (good-parse line f .1 e) (record { batch = p; counts = q; worth = w }) (heardAt (s .inbox) (f .index)) refl T z
 
   crowded : Receive s v line → s .answer .number ≡ NO_ROOM → Crowded s v line
   crowded (fails p u) z = absurd (no (u .0) (omega arith) z)
@@ -253,3 +298,32 @@ module _ (s : Step) (v : ℕ) (line : List ℕ) where
           done z (away n b x) = n z
           done z (again f e W h a b x) = let p : f ≡ C .frame = cc (sym e ∙ C .said) in true≢false (sym h ∙ ap (λ (g : Frame). heardAt (s .inbox) (g .index)) p ∙ C .new)
           done z (new f e W h a r E x) = let p : f ≡ C .frame = cc (sym e ∙ C .said) in true≢false (sym (C .short) ∙ ap (λ (g : Frame). short (frameRule g (version (heap (s .block)) v) (supply (heap (s .block))) .1)) (sym p) ∙ r)
+
+  takes-other : (f : Frame) (h : Bool) → Takes s v f h → s .answer .number ≡ ZERO → ⊥
+  takes-other f true u z = no (u .0) (omega arith) z
+  takes-other f false (fails p u) z = no (u .0) (omega arith) z
+  takes-other f false (passes p u) z = no (u .0) (omega arith) z
+
+  says-zeroed : SoundBlock (s .block) → SoundInbox (s .inbox) → v < 16 → (r : Reading) → read line ≡ r → Says s v r → s .answer .number ≡ ZERO → Zeroed s v line
+  says-zeroed B X lt (fault n p) e u z = absurd (no (u .0) (λ thirteen. omega (arith, thirteen, fault-range line n p e .1)) z)
+  says-zeroed B X lt (good f) e (fails p u) z = absurd (no (u .0) (omega arith) z)
+  says-zeroed B X lt (good f) e (passes p (fails q u)) z = absurd (no (u .0) (omega arith) z)
+  says-zeroed B X lt (good f) e (passes p (passes q (fails w u))) z = record { block = B; inbox = X; known = lt; frame = f; said = good-parse line f .1 e; batch = p; counts = q; zero = not-worth f w }
+  says-zeroed B X lt (good f) e (passes p (passes q (passes w T))) z = absurd (takes-other f (heardAt (s .inbox) (f .index)) T z)
+
+  zeroed : Receive s v line → s .answer .number ≡ ZERO → Zeroed s v line
+  zeroed (fails p u) z = absurd (no (u .0) (omega arith) z)
+  zeroed (passes a (fails p u)) z = absurd (no (u .0) (omega arith) z)
+  zeroed (passes a (passes c (fails p u))) z = absurd (no (u .0) (omega arith) z)
+  zeroed (passes a (passes c (passes d (fails p u)))) z = absurd (no (u .0) (omega arith) z)
+  zeroed (passes a (passes c (passes d (passes e (fails p u))))) z = absurd (no (u .0) (omega arith) z)
+  zeroed (passes a (passes c (passes d (passes e (passes g T))))) z = says-zeroed d e g (read line) refl T z
+
+  pub receive-zero : Receive s v line → (s .answer .number ≡ ZERO) ↔ Zeroed s v line
+  receive-zero R = (zeroed R, (λ C. back C (subst (Says s v) (good-parse line (C .frame) .0 (C .said)) (receive-says s v line (C .block) (C .inbox) (C .known) R))))
+    where
+      back : (C : Zeroed s v line) → Says s v (good (C .frame)) → s .answer .number ≡ ZERO
+      back C (fails p u) = absurd (p (C .batch))
+      back C (passes p (fails q u)) = absurd (q (C .counts))
+      back C (passes p (passes q (fails w u))) = ap (λ (a : Heard). a .number) (u .0)
+      back C (passes p (passes q (passes w T))) = absurd (w (C .zero))

@@ -1,29 +1,30 @@
 -- Demand 3: a standby that hears lines follows their batch line by line, so it is complete, and equal, exactly when every frame has been accepted.
-use mathlib.Core.Path.{_≡_, ap, sym, subst, _∙_}
-use mathlib.Core.Logic.{_⊎_, inl, inr, ⊎-elim, _↔_}
+use mathlib.Core.Path.{_≡_, refl, ap, sym, subst, _∙_}
+use mathlib.Core.Logic.{_≢_, _⊎_, inl, inr, ⊎-elim, _↔_}
 use Prim.Native.Nat.{ℕ, _^_, _<_}
 use mathlib.Core.Bool.{true, false, true≢false}
 use mathlib.Core.Option.{some}
 use mathlib.Core.List.{List}
 use lib.ListN.{length}
 use native.Mathlib.Omega.{arith}
-use Rattle.model.specs.Tree.{Entry, entries}
-use Rattle.model.specs.Delta.{Change, delta, deltaDeep}
+use Rattle.model.specs.Tree.{Tree, Entry, entries, find}
+use Rattle.model.specs.Delta.{Change, delta, deltaDeep, changeAt}
 use Rattle.model.specs.Heap.{version, supply}
 use Rattle.model.specs.Block.{heap, SoundBlock}
 use Rattle.model.specs.Frame.{Frame, parse, framesOf, frameAt, frames}
-use Rattle.model.specs.Inbox.{heardAt, begun, marked}
-use Rattle.model.specs.Link.{Missing, Step, Receive}
-use Rattle.model.specs.Replica.{Nothing, Elsewhere, Hearing, still, then, Each, Some, Took, Genuine, Heeded, Replicated}
+use Rattle.model.specs.Inbox.{heardAt, begun, marked, Complete}
+use Rattle.model.specs.Link.{Missing, Step, PutsZero, Receive}
+use Rattle.model.specs.Replica.{NoZeroSent, Nothing, Elsewhere, Hearing, still, then, Each, Some, Took, Genuine, Heeded, Replicated}
 use Rattle.model.proofs.Sorts.{ordered-sorted}
 use Rattle.model.proofs.Versions.{version-ordered}
+use Rattle.model.proofs.Members.{in-at}
 use Rattle.model.proofs.Listings.{versions-one-heap}
-use Rattle.model.proofs.Deltas.{delta-carries}
+use Rattle.model.proofs.Deltas.{delta-carries, delta-keys}
 use Rattle.model.proofs.DeltaRoom.{delta-room}
-use Rattle.model.proofs.Frames.{frames-count}
+use Rattle.model.proofs.Frames.{frames-length, frames-count, frames-set}
 use Rattle.model.proofs.Heard.{Markable, begun-heard}
 use Rattle.model.proofs.Replicas.{edited, Sending, Follows, frame-entries, start-follows, counts-agree, frame-heard, frame-follows, complete-heard, complete-entries}
-use Rattle.model.proofs.Receiving.{Outcome, away, again, new, receive-outcome, receive-others, receive-reports, belongs-only-room, line-markable, missing-complete, missing-answers}
+use Rattle.model.proofs.Receiving.{Outcome, away, again, new, receive-outcome, receive-others, receive-reports, belongs-only-room, zero-refused, line-markable, missing-complete, missing-answers}
 
 module _ {batch : ℕ} {es fs : List Entry} {cs : List Change} (D : Sending batch es fs cs) (v : ℕ) (lt : v < 16) where
   abbrev sent : List Frame
@@ -32,6 +33,10 @@ module _ {batch : ℕ} {es fs : List Entry} {cs : List Change} (D : Sending batc
   -- the block b and the inbox x follow the batch
   abbrev Following : (b x : List ℕ) → Type 0
   Following b x = Follows batch es fs cs x (entries (version (heap b) v))
+
+  -- none of the frames puts a zero
+  abbrev NoZeroPut : Type 0
+  NoZeroPut = (i : ℕ) → i < length sent → ¬ PutsZero (frameAt sent i)
 
   -- one line
   record Stepped (s : Step) (line : List ℕ) : Type 0 where
@@ -97,12 +102,12 @@ module _ {batch : ℕ} {es fs : List Entry} {cs : List Change} (D : Sending batc
         go (again f e W h a b x) = inr (subst (λ j. heardAt (s .inbox) j ≡ true) (at f e) h, a .again)
         go (new f e W h a r E x) = inl (subst (λ j. heardAt (s .inbox) j ≡ false) (at f e) h, a .again)
 
-    heeded : Heeded sent v s line
-    heeded = record {
+    heeded : NoZeroPut → Heeded sent v s line
+    heeded worth = record {
       reports = receive-reports s v line (F .sound) R;
       again = told;
       only-room = λ w. belongs-only-room s v line (frameAt sent (w .0)) B (F .sound) lt R (w .2)
-          (record { batch = frames-count batch cs (w .0) (w .1) .batch ∙ sym (F .same); counts = counts-agree D F (w .0) (w .1) });
+          (record { batch = frames-count batch cs (w .0) (w .1) .batch ∙ sym (F .same); counts = counts-agree D F (w .0) (w .1); worth = worth (w .0) (w .1) });
       others = receive-others s v line R;
     }
 
@@ -110,12 +115,12 @@ module _ {batch : ℕ} {es fs : List Entry} {cs : List Change} (D : Sending batc
   record Kept (x : List ℕ) {b : List ℕ} {lines : List (List ℕ)} {c y : List ℕ} (run : Hearing (Elsewhere v) v b x lines c y) : Type 0 where
     follows : Following c y
     sound : SoundBlock c
-    answers : Each (Heeded sent v) run
+    answers : NoZeroPut → Each (Heeded sent v) run
     heard : (i : ℕ) → i < length sent → (heardAt y i ≡ true) ↔ ((heardAt x i ≡ true) ⊎ Some (Took sent i) run)
 
   kept-run : {b x : List ℕ} {lines : List (List ℕ)} {c y : List ℕ} (run : Hearing (Elsewhere v) v b x lines c y) → SoundBlock b → Following b x → Each (Genuine sent) run → Kept x run
   unfolding Each Some
-  kept-run still B F G = record { follows = F; sound = B; answers = tt; heard = λ i l. ((λ h. inl h), (λ h. ⊎-elim (λ p. p) (λ p. absurd p) h)) }
+  kept-run still B F G = record { follows = F; sound = B; answers = λ worth. tt; heard = λ i l. ((λ h. inl h), (λ h. ⊎-elim (λ p. p) (λ p. absurd p) h)) }
   kept-run (then {x = x} {a = a} {b′ = b′} {x′ = x′} {line = line} answer H R later) B F G =
       let s : Step = record { block = a; inbox = x; block′ = b′; inbox′ = x′; answer = answer } in
       let A : SoundBlock a = H .sound B in
@@ -125,12 +130,18 @@ module _ {batch : ℕ} {es fs : List Entry} {cs : List Change} (D : Sending batc
       record {
         follows = K .follows;
         sound = K .sound;
-        answers = (heeded s line A E R (G .0), K .answers);
+        answers = λ worth. (heeded s line A E R (G .0) worth, K .answers worth);
         heard = λ i l. (
           (λ h. ⊎-elim (λ p. ⊎-elim (λ q. inl q) (λ q. inr (inl q)) (S .heard i l .0 p)) (λ p. inr (inr p)) (K .heard i l .0 h)),
           (λ h. K .heard i l .1 (⊎-elim (λ p. inl (S .heard i l .1 (inl p))) (λ p. ⊎-elim (λ q. inl (S .heard i l .1 (inr q))) (λ q. inr q) p) h)),
         );
       }
+
+-- no run accepts a frame that puts a zero
+some-took : (fs : List Frame) (i : ℕ) → PutsZero (frameAt fs i) → {host : List ℕ → List ℕ → Type 0} {v : ℕ} {b x : List ℕ} {lines : List (List ℕ)} {c y : List ℕ} (run : Hearing host v b x lines c y) → Some (Took fs i) run → ⊥
+unfolding Some
+some-took fs i zero still t = t
+some-took fs i zero {v = v} (then {line = line} answer h r later) t = ⊎-elim (λ p. zero-refused _ v line (frameAt fs i) r (p .1) zero (p .0)) (some-took fs i zero later) t
 
 -- the delta of two versions is what a batch may send
 versions-sent : {b : List ℕ} → SoundBlock b → (A B batch : ℕ) → A < 16 → B < 16 → batch < 2 ^ 32 → deltaDeep (version (heap b) A) (version (heap b) B) ≡ false
@@ -143,31 +154,54 @@ versions-sent {b} P A B batch la lb fits shallow = record {
   carries = delta-carries (version (heap b) A) (version (heap b) B) (versions-one-heap (heap b) (P .sound) A B la lb) shallow;
 }
 
--- A standby that holds A's entries in version v and hears lines, of which those that it answers with 0 are frames that carry A to B: in any order, repeated or lost, with foreign and
--- damaged lines among them, edits that found no room, and its host at work on other versions between them. It is complete, and reports so, exactly when each frame has been accepted
--- at least once; its entries then equal B's exactly; until then every key stands as in A or as in B.
-pub standby-replicates : (primary : List ℕ) → SoundBlock primary → (A B batch : ℕ) → A < 16 → B < 16 → batch < 2 ^ 32 → deltaDeep (version (heap primary) A) (version (heap primary) B) ≡ false
-    → (b : List ℕ) → SoundBlock b → (v : ℕ) → v < 16 → entries (version (heap b) v) ≡ entries (version (heap primary) A)
-    → {lines : List (List ℕ)} {c y : List ℕ} (run : Hearing (Elsewhere v) v b (begun batch) lines c y) → Each (Genuine (frames batch (version (heap primary) A) (version (heap primary) B))) run
-    → Replicated (version (heap primary) A) (version (heap primary) B) batch v run
-standby-replicates primary P A B batch la lb fits shallow b S v lt holds {y = y} run genuine = record {
-  complete = (
-    (λ k i l. ⊎-elim (λ p. absurd (true≢false (sym p ∙ begun-heard batch i))) (λ p. p) (K .heard i l .0 (complete-heard D (K .follows) .0 k i l))),
-    (λ all. complete-heard D (K .follows) .1 (λ i l. K .heard i l .1 (inr (all i l)))),
-  );
-  reports = λ n m M. let z = missing-answers y n m (K .follows .sound) M in (z, missing-complete y m (subst (λ (k : ℕ). Missing y k m) z M));
-  equal = complete-entries D (K .follows);
-  between = K .follows .between;
-  answers = K .answers;
-  sound-block = K .sound;
-  sound-inbox = K .follows .sound;
-}
-  where
-    D : Sending batch (entries (version (heap primary) A)) (entries (version (heap primary) B)) (delta (version (heap primary) A) (version (heap primary) B))
-    D = versions-sent P A B batch la lb fits shallow
+module _ (primary : List ℕ) (P : SoundBlock primary) (A B batch : ℕ) (la : A < 16) (lb : B < 16) (fits : batch < 2 ^ 32) (shallow : deltaDeep (version (heap primary) A) (version (heap primary) B) ≡ false)
+    (b : List ℕ) (S : SoundBlock b) (v : ℕ) (lt : v < 16) (holds : entries (version (heap b) v) ≡ entries (version (heap primary) A))
+    {lines : List (List ℕ)} {c y : List ℕ} (run : Hearing (Elsewhere v) v b (begun batch) lines c y) (genuine : Each (Genuine (frames batch (version (heap primary) A) (version (heap primary) B))) run) where
+  abbrev a : Tree
+  a = version (heap primary) A
 
-    K : Kept D v lt (begun batch) run
-    K = kept-run D v lt run S (rw holds (start-follows D)) genuine
+  abbrev z : Tree
+  z = version (heap primary) B
+
+  D : Sending batch (entries a) (entries z) (delta a z)
+  D = versions-sent P A B batch la lb fits shallow
+
+  K : Kept D v lt (begun batch) run
+  K = kept-run D v lt run S (rw holds (start-follows D)) genuine
+
+  complete-accepted : Complete y → (i : ℕ) → i < length (frames batch a z) → Some (Took (frames batch a z) i) run
+  complete-accepted k i l = ⊎-elim (λ p. absurd (true≢false (sym p ∙ begun-heard batch i))) (λ p. p) (K .heard i l .0 (complete-heard D (K .follows) .0 k i l))
+
+  -- A standby that holds A's entries in version v and hears lines, of which those that it answers with 0 are frames that carry A to B and put no zero: in any order, repeated or lost, with foreign and
+  -- damaged lines among them, edits that found no room, and its host at work on other versions between them. It is complete, and reports so, exactly when each frame has been accepted
+  -- at least once; its entries then equal B's exactly; until then every key stands as in A or as in B.
+  pub standby-replicates : NoZeroSent a z → Replicated a z batch v run
+  standby-replicates worth = record {
+    complete = (complete-accepted, (λ all. complete-heard D (K .follows) .1 (λ i l. K .heard i l .1 (inr (all i l)))));
+    reports = λ n m M. let e = missing-answers y n m (K .follows .sound) M in (e, missing-complete y m (subst (λ (k : ℕ). Missing y k m) e M));
+    equal = complete-entries D (K .follows);
+    between = K .follows .between;
+    answers = K .answers (λ i l p. put-no-zero i (frames-set batch (delta a z) i 0 l .0 p));
+    sound-block = K .sound;
+    sound-inbox = K .follows .sound;
+  }
+    where
+      -- a change differs from A, so it sets no zero that A has
+      put-no-zero : (i : ℕ) → (i < length (delta a z)) × (changeAt (delta a z) i .now ≡ some 0) → ⊥
+      put-no-zero i (l, e) =
+          let c = changeAt (delta a z) i in
+          let there : find (entries z) (c .key) ≡ some 0 = sym (D .carries .right i l) ∙ e in
+          delta-keys a z (versions-one-heap (heap primary) (P .sound) A B la lb) shallow (c .key) .0 (c, in-at (delta a z) _ i l, refl) (worth (c .key) there ∙ sym there)
+
+  -- The premise is needed: where B holds a zero that A lacks, its line is never accepted, so the standby never becomes complete.
+  pub zero-never-complete : (k : ℕ) → find (entries z) k ≡ some 0 → find (entries a) k ≢ some 0 → Complete y → ⊥
+  zero-never-complete k there lacks C = ⊎-elim (λ e. lacks (e ∙ there)) (λ w. sent w) (D .carries .whole k)
+    where
+      sent : (i : ℕ) × (i < length (delta a z)) × (changeAt (delta a z) i .key ≡ k) → ⊥
+      sent (i, l, e) =
+          let h : i < length (frames batch a z) = omega (arith, frames-length batch (delta a z) (omega arith)) in
+          let zero = frames-set batch (delta a z) i 0 h .1 (l, D .carries .right i l ∙ ap (find (entries z)) e ∙ there) in
+          some-took (frames batch a z) i zero run (complete-accepted C i h)
 
 -- a run with nothing between its lines is such a run
 pub undisturbed : {v : ℕ} {b x : List ℕ} {lines : List (List ℕ)} {c y : List ℕ} → Hearing Nothing v b x lines c y → Hearing (Elsewhere v) v b x lines c y

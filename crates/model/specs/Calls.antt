@@ -6,14 +6,14 @@ use mathlib.Core.Bool.{Bool, true, false, _&&_, not}
 use mathlib.Core.Option.{Option, none, some}
 use mathlib.Core.List.{List, [], _∷_}
 use lib.ListN.{length, replicate}
-use lib.Dec.{eqb, leb}
+use lib.Dec.{eqb, ltb, leb}
 use Rattle.model.specs.Tree.{Tree, leaf, size, entries, lookup}
 use Rattle.model.specs.Supply.{Make, done, short}
 use Rattle.model.specs.Rules.{insert, remove, union, difference, mergeBy, fits, diffBy}
 use Rattle.model.specs.Heap.{version, supply}
 use Rattle.model.specs.Block.{heap, room, width, Shaped, SoundBlock}
 use Rattle.model.specs.Sums.{minutes, those, within}
-use Rattle.model.specs.Numbers.{SHAPE, DAMAGED, VERSION, RULE, SUM, NO_ROOM}
+use Rattle.model.specs.Numbers.{SHAPE, DAMAGED, VERSION, RULE, ZERO, SUM, NO_ROOM}
 
 -- a check: where P fails the call is refused, else it goes on
 pub data Check (P refused next : Type 0) : Type 0 where
@@ -76,25 +76,27 @@ Reads b versions answer a =
     (Check (SoundBlock b) (a ≡ refusal DAMAGED)
     (Check (Versions versions) (a ≡ refusal VERSION) (a ≡ answer)))
 
--- an edit: the versions it names, whether its rule number is known, whether all sums fit, its destination, the rule that it runs, and its answer when done
+-- an edit: the versions it names, whether its rule number is known, whether what it puts is not 0, whether all sums fit, its destination, the rule that it runs, and its answer when done
 pub record Edit : Type 0 where
   pub versions : List ℕ
   pub legal : Bool
+  pub positive : Bool
   pub fits : Bool
   pub dst : ℕ
   pub rule : Make Tree
   pub answer : Answer
 
--- a call that edits: block, versions, rule number, sums, then room
+-- a call that edits: block, versions, rule number, zeros, sums, then room
 abbrev pub Edits : (b after : List ℕ) → Edit → Answer → Type 0
 Edits b after e a =
     Check (Shaped b) ((a ≡ refusal SHAPE) × (after ≡ b))
     (Check (SoundBlock b) ((a ≡ refusal DAMAGED) × (after ≡ b))
     (Check (Versions (e .versions)) ((a ≡ refusal VERSION) × (after ≡ b))
     (Check (e .legal ≡ true) ((a ≡ refusal RULE) × (after ≡ b))
+    (Check (e .positive ≡ true) ((a ≡ refusal ZERO) × (after ≡ b))
     (Check (e .fits ≡ true) ((a ≡ refusal SUM) × (after ≡ b))
     (Check (short (e .rule (supply (heap b)) .1) ≡ false) ((a ≡ refusal NO_ROOM) × (after ≡ b))
-    ((a ≡ e .answer) × Edited b after (e .dst) (e .rule (supply (heap b)) .0)))))))
+    ((a ≡ e .answer) × Edited b after (e .dst) (e .rule (supply (heap b)) .0))))))))
 
 -- length and N are right for fresh: N is a multiple of 32 from 32 to 4,096, and the block has exactly 17 + N/32 + 8N words
 pub record Fitting (words n : ℕ) : Type 0 where
@@ -128,11 +130,12 @@ Held b v a = Reads b (v ∷ []) (giving (minutes (entries (version (heap b) v)))
 abbrev pub HeldBetween : (b : List ℕ) (v first last : ℕ) → Answer → Type 0
 HeldBetween b v first last a = Reads b (v ∷ []) (giving (minutes (those (within first last) (entries (version (heap b) v))))) a
 
--- insert answers the old value
+-- insert answers the old value; 0 minutes would later read like a release, and are refused
 abbrev pub inserting : (b : List ℕ) (dst src key value : ℕ) → Edit
 inserting b dst src key value = record {
   versions = dst ∷ src ∷ [];
   legal = true;
+  positive = ltb 0 value;
   fits = true;
   dst = dst;
   rule = insert (version (heap b) src) key value;
@@ -144,6 +147,7 @@ abbrev pub removing : (b : List ℕ) (dst src key : ℕ) → Edit
 removing b dst src key = record {
   versions = dst ∷ src ∷ [];
   legal = true;
+  positive = true;
   fits = true;
   dst = dst;
   rule = remove (version (heap b) src) key;
@@ -152,17 +156,18 @@ removing b dst src key = record {
 
 -- copy makes nothing
 abbrev pub copying : (b : List ℕ) (dst src : ℕ) → Edit
-copying b dst src = record { versions = dst ∷ src ∷ []; legal = true; fits = true; dst = dst; rule = done (version (heap b) src); answer = giving 0 }
+copying b dst src = record { versions = dst ∷ src ∷ []; legal = true; positive = true; fits = true; dst = dst; rule = done (version (heap b) src); answer = giving 0 }
 
 -- clear empties a version
 abbrev pub clearing : ℕ → Edit
-clearing v = record { versions = v ∷ []; legal = true; fits = true; dst = v; rule = done leaf; answer = giving 0 }
+clearing v = record { versions = v ∷ []; legal = true; positive = true; fits = true; dst = v; rule = done leaf; answer = giving 0 }
 
 -- union has rules 0 to 4; under rule 4 the sum of every key that both versions have must fit
 abbrev pub uniting : (b : List ℕ) (dst left right rule : ℕ) → Edit
 uniting b dst left right rule = record {
   versions = dst ∷ left ∷ right ∷ [];
   legal = leb rule 4;
+  positive = true;
   fits = fits rule (entries (version (heap b) left)) (entries (version (heap b) right));
   dst = dst;
   rule = union (mergeBy rule) (version (heap b) left) (version (heap b) right);
@@ -174,6 +179,7 @@ abbrev pub lessening : (b : List ℕ) (dst left right rule : ℕ) (cancel : Bool
 lessening b dst left right rule cancel = record {
   versions = dst ∷ left ∷ right ∷ [];
   legal = leb rule 3 && not (cancel && eqb rule 2);
+  positive = true;
   fits = true;
   dst = dst;
   rule = difference (diffBy rule) cancel (version (heap b) left) (version (heap b) right);

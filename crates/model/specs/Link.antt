@@ -12,7 +12,7 @@ use Rattle.model.specs.Heap.{version, supply}
 use Rattle.model.specs.Block.{heap, Shaped, SoundBlock}
 use Rattle.model.specs.Frame.{Frame, Reading, good, fault, read}
 use Rattle.model.specs.Inbox.{batchOf, countOf, heardAt, SoundInbox, begun, marked, missing, question}
-use Rattle.model.specs.Numbers.{SHAPE, DAMAGED, VERSION, NO_ROOM, BATCH, COUNT}
+use Rattle.model.specs.Numbers.{SHAPE, DAMAGED, VERSION, NO_ROOM, BATCH, COUNT, ZERO}
 use Rattle.model.specs.Calls.{Check, Edited}
 
 -- parse gives what is wrong with the line and the place of a bad digit, or the six fields
@@ -72,12 +72,17 @@ Takes s v f false =
     × Edited (s .block) (s .block′) v (frameRule f (version (heap (s .block)) v) (supply (heap (s .block))) .0)
     × (s .inbox′ ≡ marked (s .inbox) (f .count) (f .index)))
 
--- a line with a fault is refused with that number, and the place of a bad digit; else batch and count are checked
+-- a put of 0 minutes, which would later read like a release
+abbrev pub PutsZero : Frame → Type 0
+PutsZero f = (f .kind ≡ 1) × (f .value ≡ 0)
+
+-- a line with a fault is refused with that number, and the place of a bad digit; else batch and count are checked, then, of a repeat too, that no 0 is put
 abbrev pub Says : Step → (v : ℕ) → Reading → Type 0
 Says s v (fault n p) = unchanged s (record { number = n; again = 0; missing = 0; place = p })
 Says s v (good f) =
     Check (f .batch ≡ batchOf (s .inbox)) (turnedAway s BATCH)
-    (Check ((countOf (s .inbox) ≡ 0) ⊎ (countOf (s .inbox) ≡ f .count)) (turnedAway s COUNT) (Takes s v f (heardAt (s .inbox) (f .index))))
+    (Check ((countOf (s .inbox) ≡ 0) ⊎ (countOf (s .inbox) ≡ f .count)) (turnedAway s COUNT)
+    (Check (¬ PutsZero f) (turnedAway s ZERO) (Takes s v f (heardAt (s .inbox) (f .index)))))
 
 -- shape and soundness, block before inbox in each; version; then the line
 abbrev pub Receive : Step → (v : ℕ) (line : List ℕ) → Type 0

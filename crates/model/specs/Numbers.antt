@@ -49,6 +49,10 @@ KIND = 11
 abbrev pub RANGE : ℕ
 RANGE = 12
 
+-- a value of 0 is put
+abbrev pub ZERO : ℕ
+ZERO = 13
+
 -- a sum of union rule 4 is above 4,294,967,295
 abbrev pub SUM : ℕ
 SUM = 14

@@ -14,6 +14,10 @@ use Rattle.model.specs.Inbox.{heardAt, SoundInbox, begun, Complete}
 use Rattle.model.specs.Numbers.{NO_ROOM}
 use Rattle.model.specs.Link.{Missing, Heard, Step, Receive}
 
+-- no zero is sent: one that B holds stands in A already. Zeros of A alone are removed or overwritten, and ask for nothing.
+abbrev pub NoZeroSent : (A B : Tree) → Type 0
+NoZeroSent A B = (k : ℕ) → find (entries B) k ≡ some 0 → find (entries A) k ≡ some 0
+
 -- nothing is done between two lines
 abbrev pub Nothing : (b b′ : List ℕ) → Type 0
 Nothing b b′ = b′ ≡ b

@@ -10,7 +10,7 @@ use native.Mathlib.Omega.{arith}
 use Rattle.model.specs.Frame.{Frame, Reading, good, fault, read, parse}
 use Rattle.model.specs.Link.{Parse, Begin, Heard, Receive}
 use Rattle.model.specs.Replica.{Nothing, Hearing, still, then}
-use Rattle.model.proofs.Lines.{fault-least, good-parse}
+use Rattle.model.proofs.Lines.{fault-range, good-parse}
 use Rattle.model.proofs.Refusals.{begin-begins}
 use Rattle.receive.specs.Lines.{Runs, idle, waits, begins, hears}
 
@@ -47,7 +47,7 @@ pub runs-begins : {b x z c y : List ℕ} {g : Bool} {n m : ℕ} (f : Frame) (p :
 runs-begins {b = b} {x = x} {z = z} {c = c} {y = y} {n = n} {m = m} f p line a e P zero-n long B r = rw e (begins f (said (read line) refl P) (then a refl (subst (λ (w : List ℕ). Receive (record { block = b; inbox = w; block′ = c; inbox′ = y; answer = a }) 0 line) (begin-begins (f .batch) long B .1) r) still))
   where
     said : (o : Reading) → read line ≡ o → Parse o n f p → parse line ≡ some f
-    said (fault k q) d P = absurd (omega (arith, fault-least line k q d, P .0, zero-n))
+    said (fault k q) d P = absurd (omega (arith, fault-range line k q d .0, P .0, zero-n))
     said (good h) d P = good-parse line h .1 d ∙ ap some (sym (P .1))
 
 -- what is heard of a line is what it says

@@ -29,9 +29,10 @@ edit-plain b after e a z (fails p r) = fails p (ap numbered (r .0), r .1)
 edit-plain b after e a z (passes p (fails q r)) = passes p (fails q (ap numbered (r .0), r .1))
 edit-plain b after e a z (passes p (passes q (fails u r))) = passes p (passes q (fails u (ap numbered (r .0), r .1)))
 edit-plain b after e a z (passes p (passes q (passes u (fails l r)))) = passes p (passes q (passes u (fails l (ap numbered (r .0), r .1))))
-edit-plain b after e a z (passes p (passes q (passes u (passes l (fails f r))))) = passes p (passes q (passes u (passes l (fails f (ap numbered (r .0), r .1)))))
-edit-plain b after e a z (passes p (passes q (passes u (passes l (passes f (fails m r)))))) = passes p (passes q (passes u (passes l (passes f (fails m (ap numbered (r .0), r .1))))))
-edit-plain b after e a z (passes p (passes q (passes u (passes l (passes f (passes m r)))))) = passes p (passes q (passes u (passes l (passes f (passes m (rw z (ap numbered (rw z at (r .0))), r .1))))))
+edit-plain b after e a z (passes p (passes q (passes u (passes l (fails o r))))) = passes p (passes q (passes u (passes l (fails o (ap numbered (r .0), r .1)))))
+edit-plain b after e a z (passes p (passes q (passes u (passes l (passes o (fails f r)))))) = passes p (passes q (passes u (passes l (passes o (fails f (ap numbered (r .0), r .1))))))
+edit-plain b after e a z (passes p (passes q (passes u (passes l (passes o (passes f (fails m r))))))) = passes p (passes q (passes u (passes l (passes o (passes f (fails m (ap numbered (r .0), r .1)))))))
+edit-plain b after e a z (passes p (passes q (passes u (passes l (passes o (passes f (passes m r))))))) = passes p (passes q (passes u (passes l (passes o (passes f (passes m (rw z (ap numbered (rw z at (r .0))), r .1)))))))
 
 -- cancelling by number
 pub rule-kept : (cancel rule : ℕ) → cancel < 2 → rule ≡ ruleFor cancel rule

@@ -11,7 +11,7 @@ use Rattle.model.specs.Sums.{minutes, those, within, sumBelow}
 use Rattle.model.specs.Heap.{Named, Linked, sizeAt, sumAt, tree, version, supply}
 use Rattle.model.specs.Block.{heap, Words, Shaped, SoundBlock}
 use Rattle.model.specs.Moves.{Running, Holding, FullBelow, HeldBelow, Swept, Finished}
-use Rattle.model.specs.Numbers.{RULE, SUM, NO_ROOM}
+use Rattle.model.specs.Numbers.{RULE, ZERO, SUM, NO_ROOM}
 use Rattle.model.specs.Calls.{fails, passes, Answer, refusal, giving, Versions, Edit, Edits}
 use Rattle.model.proofs.Loads.{tree-size, tree-sum}
 use Rattle.model.proofs.Sums.{total-minutes}
@@ -103,6 +103,7 @@ pub record Begun (b : List ℕ) (e : Edit) : Type 0 where
   pub sound : SoundBlock b
   pub versions : Versions (e .versions)
   pub legal : e .legal ≡ true
+  pub positive : e .positive ≡ true
   pub fits : e .fits ≡ true
 
 -- and whose rule has run, from b to c, of pieces that stood there, making nodes from number `low` on
@@ -127,11 +128,11 @@ module _ {b c : List ℕ} {low : ℕ} {made : Made} {e : Edit} (R : Run b c low 
       go (At k) O (z, F) =
           let B = R .begun in
           let C = carried (B .sound) (R .pieces) (R .named) O (R .ordered) F in
-          passes (B .sound .shaped) (passes (B .sound) (passes (B .versions) (passes (B .legal) (passes (B .fits) (passes (C .enough) (q ∙ ap (λ x. ended x (e .answer)) z, C .edited))))))
+          passes (B .sound .shaped) (passes (B .sound) (passes (B .versions) (passes (B .legal) (passes (B .positive) (passes (B .fits) (passes (C .enough) (q ∙ ap (λ x. ended x (e .answer)) z, C .edited)))))))
       go Full O (z, W) =
           let B = R .begun in
           let X = refused (B .sound) (R .pieces) (R .named) O W wb wa in
-          passes (B .sound .shaped) (passes (B .sound) (passes (B .versions) (passes (B .legal) (passes (B .fits) (fails (λ f. true≢false (sym (X .short) ∙ f)) (q ∙ ap (λ x. ended x (e .answer)) z, X .same))))))
+          passes (B .sound .shaped) (passes (B .sound) (passes (B .versions) (passes (B .legal) (passes (B .positive) (passes (B .fits) (fails (λ f. true≢false (sym (X .short) ∙ f)) (q ∙ ap (λ x. ended x (e .answer)) z, X .same)))))))
 
 -- what the test of a rule number tells
 pub rule-known : (r : Bool) {legal : Bool} → r ≡ legal → not r ≡ false → legal ≡ true
@@ -146,6 +147,10 @@ rule-unknown false e t = sym e
 pub rule-refused : {b : List ℕ} {a : Answer} (e : Edit) → SoundBlock b → Versions (e .versions) → e .legal ≡ false → a ≡ refusal RULE → Edits b b e a
 rule-refused e B u l q = passes (B .shaped) (passes B (passes u (fails (λ t. true≢false (sym t ∙ l)) (q, refl))))
 
+-- a value of 0
+pub zero-refused : {b : List ℕ} {a : Answer} (e : Edit) → SoundBlock b → Versions (e .versions) → e .legal ≡ true → e .positive ≡ false → a ≡ refusal ZERO → Edits b b e a
+zero-refused e B u l o q = passes (B .shaped) (passes B (passes u (passes l (fails (λ t. true≢false (sym t ∙ o)) (q, refl)))))
+
 -- a sum that does not fit
-pub sum-refused : {b : List ℕ} {a : Answer} (e : Edit) → SoundBlock b → Versions (e .versions) → e .legal ≡ true → e .fits ≡ false → a ≡ refusal SUM → Edits b b e a
-sum-refused e B u l f q = passes (B .shaped) (passes B (passes u (passes l (fails (λ t. true≢false (sym t ∙ f)) (q, refl)))))
+pub sum-refused : {b : List ℕ} {a : Answer} (e : Edit) → SoundBlock b → Versions (e .versions) → e .legal ≡ true → e .positive ≡ true → e .fits ≡ false → a ≡ refusal SUM → Edits b b e a
+sum-refused e B u l o f q = passes (B .shaped) (passes B (passes u (passes l (passes o (fails (λ t. true≢false (sym t ∙ f)) (q, refl))))))

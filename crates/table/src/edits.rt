@@ -28,6 +28,8 @@ const RULE: u32 = 4;
 
 const NO_ROOM: u32 = 5;
 
+const ZERO: u32 = 13;
+
 const SUM: u32 = 14;
 
 // The end of an edit: the destination takes what was made, or what was made is given up again. Receive ends its edit by it too; it is no call of its own.
@@ -70,13 +72,16 @@ pub fn fresh(b: &mut [u32], n: u32) -> Answer
     plain(audit::fresh(b, n))
 }
 
-// Version dst becomes src with value under key; the answer is what stood there.
+// Version dst becomes src with value under key; the answer is what stood there. 0 minutes would later read like a release.
 pub fn insert(b: &mut [u32], dst: u32, src: u32, key: u32, value: u32) -> Answer
     ensures { λ r. ⌜ Edits (now (b .entry)) (now (b .exit)) (inserting (now (b .entry)) dst src key value) (answerOf r) ⌝ }
 {
     let n = admit(b, dst, src, src);
     if n != 0 {
         return plain(n);
+    }
+    if value == 0 {
+        return plain(ZERO);
     }
     let from = makes_from(b);
     let source = root(b, src);

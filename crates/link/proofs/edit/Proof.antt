@@ -18,7 +18,7 @@ run c =
     let a = entry c .args in
     let p = entry c .pre in
     record {
-      begun = record { sound = p .0; versions = one-known (p .1); legal = refl; fits = refl };
+      begun = record { sound = p .0; versions = one-known (p .1); legal = refl; positive = refl; fits = refl };
       low-is = c .before .before .makes-from .ensures;
       pieces = _;
       named = source-pieces (record { sound = p .0; known = p .1; is = refl });

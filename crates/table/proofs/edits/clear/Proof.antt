@@ -23,7 +23,7 @@ unfolding Ordered
 run c =
     let A = admitted (c .before .before) in
     record {
-      begun = record { sound = A .sound; versions = one-known (A .first); legal = refl; fits = refl };
+      begun = record { sound = A .sound; versions = one-known (A .first); legal = refl; positive = refl; fits = refl };
       low-is = c .makes-from .ensures;
       pieces = [];
       named = no-pieces _;

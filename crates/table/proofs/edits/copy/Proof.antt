@@ -24,7 +24,7 @@ run : (c : tie.After-root) → Run (c .before .before .before .before .before .b
 run c =
     let A = admitted (c .before .before .before .before) in
     record {
-      begun = record { sound = A .sound; versions = two-known (A .first) (A .second); legal = refl; fits = refl };
+      begun = record { sound = A .sound; versions = two-known (A .first) (A .second); legal = refl; positive = refl; fits = refl };
       low-is = c .before .before .makes-from .ensures;
       pieces = _;
       named = source-pieces (source c);

@@ -27,7 +27,7 @@ run c =
     let a = c .before .before .before .before .before .before .before .before .before .before .before .before .before .before .args in
     let legal = rule-known (c .before .before .before .before .before .before .before .before .before .difference-rule .result) (c .before .before .before .before .before .before .before .before .before .difference-rule .ensures) (c .before .before .before .before .before .before .before .before .if2 .left) in
     record {
-      begun = record { sound = A .sound; versions = three-known (A .first) (A .second) (A .third); legal = legal; fits = refl };
+      begun = record { sound = A .sound; versions = three-known (A .first) (A .second) (A .third); legal = legal; positive = refl; fits = refl };
       low-is = c .before .before .before .before .before .before .makes-from .ensures;
       pieces = _;
       named = pair-pieces (S .0) (S .1);

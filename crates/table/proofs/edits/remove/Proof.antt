@@ -27,7 +27,7 @@ run c =
     let S = source (c .before .before .before .before) in
     let a = c .before .before .before .before .before .before .before .before .before .before .before .before .args in
     record {
-      begun = record { sound = A .sound; versions = two-known (A .first) (A .second); legal = refl; fits = refl };
+      begun = record { sound = A .sound; versions = two-known (A .first) (A .second); legal = refl; positive = refl; fits = refl };
       low-is = c .before .before .before .before .before .before .makes-from .ensures;
       pieces = _;
       named = source-pieces S;

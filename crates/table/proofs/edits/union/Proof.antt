@@ -1,6 +1,6 @@
 -- The rule's number is known and its sums fit, and the union of the two roots ends as every edit does.
 use borrow.Author.Needs.{needs}
-use mathlib.Core.Path.{_≡_, _∙_}
+use mathlib.Core.Path.{_≡_, refl, _∙_}
 use mathlib.Core.Bool.{true}
 use native.Mathlib.Omega.{arith}
 use Rattle.model.specs.Calls.{Edit, uniting}
@@ -34,6 +34,7 @@ begun c =
       sound = A .sound;
       versions = three-known (A .first) (A .second) (A .third);
       legal = legal (c .before .before .before .before .before .before .before);
+      positive = refl;
       fits = rule-known (c .before .fits2 .result) (fits-told _ (S .0) (S .1) (c .before .fits2 .ensures)) (c .if3 .left);
     }
 
@@ -96,7 +97,7 @@ returns-3 : tie.Need-returns-3
 returns-3 c =
     let A = admitted (c .before .before .before .before .before .before .before .before .before .before) in
     let S = sources (c .before .before .before .before) in
-    sum-refused (edit (c .before .before .before .before .before .before .before .before .before .before .before .before .before .before)) (A .sound) (three-known (A .first) (A .second) (A .third)) (legal (c .before .before .before .before .before .before .before .before)) (rule-unknown (c .before .before .fits2 .result) (fits-told _ (S .0) (S .1) (c .before .before .fits2 .ensures)) (c .before .if3 .taken)) (c .plain3 .ensures)
+    sum-refused (edit (c .before .before .before .before .before .before .before .before .before .before .before .before .before .before)) (A .sound) (three-known (A .first) (A .second) (A .third)) (legal (c .before .before .before .before .before .before .before .before)) refl (rule-unknown (c .before .before .fits2 .result) (fits-told _ (S .0) (S .1) (c .before .before .fits2 .ensures)) (c .before .if3 .taken)) (c .plain3 .ensures)
 
 makes-from-requires : tie.Need-makes-from-requires
 makes-from-requires c κs = admitted (c .before .before .before .before .before .before .before .before .before .before) .sound .shaped
