@@ -18,20 +18,25 @@ fn remove(b: &mut [u32], version: u32, key: u32) -> u32 {
     unsafe { ksk_remove(b.as_mut_ptr(), b.len(), version, version, key, &mut had, &mut old) }
 }
 
+/// Any value but 0, which an insert refuses.
+fn value(random: &mut Random) -> u32 {
+    (random.next() as u32).max(1)
+}
+
 /// Version 0 with so many entries under random keys, of which `churn` came in the place of others.
 pub fn entries(n: usize, count: usize, churn: usize, random: &mut Random) -> Block {
     let mut b = Block::fresh(n);
     let mut keys = vec![];
     for _ in 0..count {
         let key = random.next() as u32;
-        assert_eq!(insert(&mut b.words, 0, key, random.next() as u32), 0);
+        assert_eq!(insert(&mut b.words, 0, key, value(random)), 0);
         keys.push(key);
     }
     for _ in 0..churn {
         let at = random.below(count);
         assert_eq!(remove(&mut b.words, 0, keys[at]), 0);
         keys[at] = random.next() as u32;
-        assert_eq!(insert(&mut b.words, 0, keys[at], random.next() as u32), 0);
+        assert_eq!(insert(&mut b.words, 0, keys[at], value(random)), 0);
     }
     b
 }

@@ -112,6 +112,10 @@ impl Call {
         }
     }
 
+    pub fn puts_zero(&self) -> bool {
+        matches!(self, Call::Insert { value: 0, .. })
+    }
+
     pub fn rule_known(&self) -> bool {
         match *self {
             Call::Union { rule, .. } => rule <= 4,

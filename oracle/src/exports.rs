@@ -107,7 +107,7 @@ pub fn parse(line: &[u8]) -> (u32, u32, Frame) {
 pub static ANSWERS: [AtomicU64; 15] = [const { AtomicU64::new(0) }; 15];
 
 /// The numbers that a call on a block can answer: a comparison that never meets one compares less than it says.
-pub const NUMBERS: [usize; 14] = [0, 1, 2, 3, 4, 5, 6, 7, 8, 9, 10, 11, 12, 14];
+pub const NUMBERS: [usize; 15] = [0, 1, 2, 3, 4, 5, 6, 7, 8, 9, 10, 11, 12, 13, 14];
 
 /// Runs a call. Fields that an export does not have stay zero.
 pub fn run(block: &mut [u32], inbox: &mut [u32], call: &Call) -> Reply {

@@ -87,7 +87,7 @@ pub fn receive(maps: &mut [Map], inbox: &mut [u32], version: u32, line: &[u8]) -
         return None;
     }
     let frame = read_line(line)?;
-    if frame.batch != inbox[0] || inbox[1] != 0 && inbox[1] != frame.count {
+    if frame.batch != inbox[0] || inbox[1] != 0 && inbox[1] != frame.count || frame.kind == 1 && frame.value == 0 {
         return None;
     }
     let (word, bit) = (2 + frame.index as usize / 32, 1 << (frame.index % 32));

@@ -88,9 +88,10 @@ impl Mix {
         }
     }
 
+    /// Now and then 0, which an insert refuses; the zeros that trees hold are put there by hand.
     fn value(self, random: &mut Random) -> u32 {
         if !random.once_in(self.large) {
-            return random.below(4) as u32;
+            return random.pick(&[0, 1, 1, 1, 2, 2, 3, 3]);
         }
         if random.once_in(2) {
             random.pick(&EDGES)

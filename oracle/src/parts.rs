@@ -13,6 +13,7 @@ pub mod link;
 pub mod room;
 pub mod sums;
 pub mod uneven;
+pub mod zeros;
 
 pub type Compared = Result<u64, String>;
 

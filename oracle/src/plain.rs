@@ -12,6 +12,7 @@ pub const NO_ROOM: u32 = 5;
 pub const TOO_DEEP: u32 = 6;
 pub const BATCH: u32 = 8;
 pub const COUNT: u32 = 9;
+pub const ZERO: u32 = 13;
 pub const SUM: u32 = 14;
 
 /// A refusal's number, and the place of a bad digit.
@@ -47,12 +48,14 @@ pub fn answer(table: &mut Table, inbox: &mut [u32], call: &Call) -> Reply {
     }
 }
 
-/// What is looked at before anything else: versions, rules and sums.
+/// What is looked at before anything else: versions, rules, zeros and sums.
 fn refused(table: &Table, call: &Call) -> Option<u32> {
     if call.versions().iter().any(|&version| version > 15) {
         Some(VERSION)
     } else if !call.rule_known() {
         Some(RULE)
+    } else if call.puts_zero() {
+        Some(ZERO)
     } else {
         exceeds(table, call).then_some(SUM)
     }
@@ -170,6 +173,9 @@ fn receive(table: &mut Table, inbox: &mut [u32], version: u32, line: &[u8]) -> R
     }
     if inbox[1] != 0 && inbox[1] != frame.count {
         return Err(COUNT.into());
+    }
+    if frame.kind == 1 && frame.value == 0 {
+        return Err(ZERO.into());
     }
     let repeat = frame::heard(inbox, frame.index);
     if !repeat {

@@ -51,11 +51,11 @@ fn key(random: &mut Random) -> u32 {
     drawn.checked_sub(SMALL_KEYS).map_or(drawn as u32, |edge| EDGES[edge])
 }
 
-/// Mostly small, so that equal values meet; sometimes so large that a sum does not fit.
+/// Mostly small, so that equal values meet; sometimes so large that a sum does not fit. Never 0: the table refuses to insert it.
 fn value(random: &mut Random) -> u32 {
     match random.below(12) {
         0 => random.pick(&EDGES),
-        _ => random.below(9) as u32,
+        _ => 1 + random.below(9) as u32,
     }
 }
 

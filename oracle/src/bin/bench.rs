@@ -47,7 +47,7 @@ fn put(table: &mut Table, version: u32, keys: &[u32], value: impl Fn(u32) -> u32
 /// Version 0 with so many entries, at keys 0, 2, 4 and on.
 fn entries(n: usize, count: u32, seed: u64) -> Table {
     let mut table = Table::fresh(n);
-    put(&mut table, 0, &keys(count, 2, seed), |key| key);
+    put(&mut table, 0, &keys(count, 2, seed), |key| key + 1);
     table
 }
 
@@ -79,7 +79,7 @@ fn full(n: usize) -> Table {
 /// Version 1 with keys 0, step, 2 step and on, of which the even ones are also in version 0.
 fn beside(n: usize, count: u32, other: u32, step: u32, seed: u64) -> Table {
     let mut table = entries(n, count, seed);
-    put(&mut table, 1, &keys(other, step, seed), |key| key);
+    put(&mut table, 1, &keys(other, step, seed), |key| key + 1);
     table
 }
 
@@ -141,7 +141,7 @@ fn scenes(n: usize, seed: u64) -> Vec<Scene> {
         scenes.push(scene("difference of 2,000 and 100", &beside(n, 2000, 100, 31, seed), difference(0)));
         scenes.push(scene("union of 1,500 and its copy", &copied(n, 1500, seed), union.clone()));
         scenes.push(scene("union of 1,000 and 1,000 common keys", &beside(n, 1000, 1000, 2, seed), union.clone()));
-        scenes.push(scene("the same, put in another order", &common(n, 1000, seed, |key| key), union.clone()));
+        scenes.push(scene("the same, put in another order", &common(n, 1000, seed, |key| key + 1), union.clone()));
         scenes.push(scene("the same, every sum near the limit", &common(n, 1000, seed, |key| u32::MAX / 2 - key), union));
     } else {
         scenes.push(scene("union of 2,000 and 2", &beside(n, 2000, 2, 3, seed), union.clone()));
@@ -316,7 +316,7 @@ fn finds_room(n: usize, k: u32, common: u32) -> bool {
     let shared = k * common / 100;
     let mut keys: Vec<u32> = (0..k).map(|i| if i < shared { 2 * (i * k / shared.max(1)) } else { 2 * i + 1 }).collect();
     Random::new(u64::from(k)).shuffle(&mut keys);
-    put(&mut table, 1, &keys, |key| key);
+    put(&mut table, 1, &keys, |key| key + 1);
     let call = Call::Union { dest: 2, left: 0, right: 1, rule: 0 };
     exports::run(&mut table.words(), &mut [], &call).number == 0
 }

@@ -38,13 +38,14 @@ fn damage(random: &mut Random, words: &mut Vec<u32>) {
 
 fn line(random: &mut Random, inbox: &[u32]) -> Vec<u8> {
     let count = inbox.get(1).copied().filter(|count| (1..=4096).contains(count) && !random.once_in(5)).unwrap_or(9);
+    let kind = 1 + random.below(2) as u32;
     let frame = Frame {
         batch: if random.once_in(6) { 99 } else { inbox.first().copied().unwrap_or(0) },
         index: random.below(count as usize) as u32,
         count,
-        kind: 1 + random.below(2) as u32,
+        kind,
         key: random.below(40) as u32,
-        value: 0,
+        value: if kind == 1 { random.below(3) as u32 } else { 0 },
     };
     let mut line = frame.line();
     if random.once_in(6) {

@@ -106,7 +106,7 @@ pub fn received(effort: Effort) -> Compared {
         let compare = |line: &[u8]| compare(&standby, line);
         Ok(100 + each_byte(&line, compare)? + each_length(&line, compare)?)
     })?;
-    met.into_inner().complete(&[0, 7, 8, 9, 10, 11, 12])?;
+    met.into_inner().complete(&[0, 7, 8, 9, 10, 11, 12, 13])?;
     Ok(compared)
 }
 

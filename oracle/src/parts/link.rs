@@ -1,5 +1,6 @@
 //! A delta sent over a link that loses, repeats, delays and garbles. The standby is complete exactly when each frame was
-//! accepted; then it holds B, and until then each key is as in A or as in B.
+//! accepted; then it holds B, and until then each key is as in A or as in B. No value is 0: a put of 0 is never accepted, and
+//! what comes of one is in `zeros`.
 
 use super::{Compared, Effort};
 use crate::call::Call;
@@ -22,7 +23,7 @@ const B: u32 = 1;
 const KEYS: usize = 40;
 
 fn put(random: &mut Random, trio: &mut Trio, version: u32) -> Result<(), String> {
-    let (key, value) = (random.below(KEYS) as u32, random.below(3) as u32);
+    let (key, value) = (random.below(KEYS) as u32, 1 + random.below(3) as u32);
     trio.step(&Call::Insert { dest: version, source: version, key, value }).map(drop)
 }
 
@@ -82,7 +83,7 @@ impl Standby {
             trio.step(&Call::Insert { dest: version, source: version, key, value })?;
         }
         for key in 0..random.below(n - a.len()) as u32 {
-            trio.step(&Call::Insert { dest: FILLER, source: FILLER, key, value: key })?;
+            trio.step(&Call::Insert { dest: FILLER, source: FILLER, key, value: 1 })?;
         }
         let mut standby = Standby { trio, version, a: b, b: a, count, accepted: BTreeSet::new() };
         standby.turn(count, batch)?;

@@ -42,7 +42,8 @@ pub fn exact(effort: Effort) -> Compared {
         let mut compared = 0;
         for _ in 0..20 {
             let call = mix.edit(random);
-            let made = if call.rule_known() && !exceeds(&trio.table, &call) { makes(&trio.table, &call) } else { 0 };
+            let refused = !call.rule_known() || call.puts_zero() || exceeds(&trio.table, &call);
+            let made = if refused { 0 } else { makes(&trio.table, &call) };
             if (1..=trio.table.free().len()).contains(&made) {
                 compared += both(random, &trio.table, &call, made)?;
             }

@@ -2,7 +2,7 @@
 //! Every version is kept as a plain map beside the block, and what is expected comes from these maps.
 
 mod drawn;
-mod site;
+pub mod site;
 
 use super::{Compared, Effort};
 use crate::block::{mark, place, Block};
@@ -14,7 +14,7 @@ use std::cell::Cell;
 use std::collections::BTreeMap;
 
 type Entry = (u32, u64);
-type Map = BTreeMap<u32, u64>;
+pub type Map = BTreeMap<u32, u64>;
 
 const LIMIT: u64 = 4_294_967_295;
 const NO_ROOM: u32 = 5;

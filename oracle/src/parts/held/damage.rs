@@ -57,7 +57,7 @@ fn put(entries: &[Entry], new: Entry) -> Vec<Entry> {
 /// An insert in place: refused it changes no word, done it leaves a sound block with the entries it should have.
 fn insert(random: &mut Random, kept: &[u32], version: u32, number: u32, entries: &[Entry]) -> Result<(), String> {
     let mut block = kept.to_vec();
-    let (drawn_key, value) = (random.word(), random.word());
+    let (drawn_key, value) = (random.word(), random.word().max(1));
     let key = if entries.is_empty() || random.once_in(2) { drawn_key } else { random.pick(entries).0 };
     let got = calls::insert(&mut block, version, version, key, value);
     let old = entries.iter().find(|entry| entry.0 == key).map_or((0, 0), |entry| (1, entry.1));

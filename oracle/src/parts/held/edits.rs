@@ -32,7 +32,7 @@ fn exceeds(block: &[u32], left: u32, right: u32) -> bool {
     read(block, left).iter().any(|&(key, value)| value.checked_add(beside(key)).is_none())
 }
 
-/// One random edit, done, or refused for room or for a sum. Gives its destination.
+/// One random edit, done, or refused for room, for a sum or for a value of 0. Gives its destination.
 fn edit(random: &mut Random, block: &mut [u32], keys: usize) -> Result<u32, String> {
     let (dest, left, right) = (version(random), version(random), version(random));
     let (key, value) = (key(random, keys), Values::Mixed.draw(random));
@@ -50,8 +50,10 @@ fn edit(random: &mut Random, block: &mut [u32], keys: usize) -> Result<u32, Stri
         18 => calls::copy(block, dest, source),
         _ => calls::clear(block, dest),
     };
+    let zero = kind <= 9 && value == 0;
     match number {
-        0 | 5 if !unfit => Ok(dest),
+        0 | 5 if !unfit && !zero => Ok(dest),
+        13 if zero => Ok(dest),
         14 if unfit => Ok(dest),
         _ => Err(format!("an edit of {dest} gives {number}")),
     }
@@ -122,7 +124,7 @@ pub fn large(effort: Effort) -> Compared {
         for entry in 0..1600 {
             let (key, value) = (key(random, 2000), Values::Mixed.draw(random));
             let (number, _, _) = calls::insert(&mut block, entry % 2, entry % 2, key, value);
-            if number != 0 {
+            if number != if value == 0 { 13 } else { 0 } {
                 return Err(format!("an insert gives {number}"));
             }
             if entry % 8 < 2 {

@@ -10,8 +10,11 @@ use crate::history::same_words;
 use crate::ledger::plain::EDIT_REFUSED;
 use crate::ledger::store::{entries, Open};
 use crate::ledger::{account_of, totals, Op};
+use crate::parts::uneven::{self, Lean};
 use crate::parts::Compared;
 use crate::random::Random;
+use crate::rules::Supply;
+use crate::table::Table;
 use std::collections::BTreeSet;
 
 struct World {
@@ -34,6 +37,18 @@ fn fresh_block(n: usize) -> Vec<u32> {
     block
 }
 
+/// Every version holds a few calls, some of them for 0 minutes: no reservation puts those, but they may stand there.
+fn block_by_hand(random: &mut Random, n: usize, calls: usize) -> Vec<u32> {
+    let mut table = Table::fresh(n);
+    let mut supply = Supply::new(table.free());
+    for tree in &mut table.versions {
+        let call = |random: &mut Random| (random.below(3) as u32) << 24 | random.below(calls) as u32;
+        let open: BTreeSet<u32> = (0..random.below(n / 24 + 1)).map(|_| call(random)).collect();
+        *tree = uneven::tree(random, &mut supply, &Vec::from_iter(open), Lean::Anyhow, 2);
+    }
+    table.words()
+}
+
 /// Fresh, or any words.
 fn book(random: &mut Random, shelf: &mut Shelf, fresh: bool, met: &mut Met) -> Result<Book, String> {
     let accounts = random.pick(&[1, 2, 5, 255, 256]);
@@ -47,7 +62,7 @@ fn book(random: &mut Random, shelf: &mut Shelf, fresh: bool, met: &mut Met) -> R
 impl World {
     fn new(random: &mut Random, n: usize, calls: usize, met: &mut Met) -> Result<Self, String> {
         let (fresh, ledgers) = (random.below(5) < 3, 1 + random.below(3));
-        let mut shelf = Shelf::of(fresh_block(n));
+        let mut shelf = Shelf::of(if fresh { fresh_block(n) } else { block_by_hand(random, n, calls) });
         let mut numbers: Vec<u32> = (0..16).collect();
         random.shuffle(&mut numbers);
         let versions = numbers[..ledgers].to_vec();
@@ -104,8 +119,7 @@ impl World {
         }
         match *op {
             Op::TopUp { account, minutes } => self.topped[at][account as usize] += u128::from(minutes),
-            Op::Reserve { version, call, minutes } => {
-                (minutes == 0).then(|| met.note("opened for 0 minutes"));
+            Op::Reserve { version, call, .. } => {
                 self.closed.contains(&(version, call)).then(|| met.note("number used again"));
             }
             Op::Settle { version, call, .. } | Op::Release { version, call } => {

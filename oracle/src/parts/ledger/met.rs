@@ -23,7 +23,18 @@ const OUTCOMES: [(&str, &[(u32, u32, &str)]); 6] = [
     ("account", &[(0, 0, ""), (21, 0, ""), (22, 0, "")]),
     (
         "reserve",
-        &[(0, 0, ""), (21, 0, ""), (22, 0, ""), (23, 1, ""), (23, 2, ""), (23, 3, ""), (24, 0, ""), (26, 0, ""), (29, 5, "")],
+        &[
+            (0, 0, ""),
+            (21, 0, ""),
+            (22, 0, ""),
+            (23, 1, ""),
+            (23, 2, ""),
+            (23, 3, ""),
+            (24, 0, ""),
+            (26, 0, ""),
+            (29, 5, ""),
+            (29, 13, ""),
+        ],
     ),
     (
         "settle",
@@ -61,9 +72,8 @@ const CHECKS: [(&str, &[u32]); 5] = [
 const NEVER: [(&str, u32, u32); 6] =
     [("top-up", 22, 28), ("settle", 22, 28), ("release", 22, 28), ("settle", 25, 29), ("release", 25, 29), ("release", 25, 28)];
 
-const NOTES: [&str; 9] = [
+const NOTES: [&str; 8] = [
     "number used again",
-    "opened for 0 minutes",
     "closed with 0 minutes",
     "promise at 2^64 - 1",
     "promise where room was short",

@@ -3,7 +3,7 @@
 use crate::frame::{Frame, LINE};
 use crate::random::Random;
 
-/// A frame of kind 0, 1 or 2 that breaks no rule.
+/// A frame of kind 0, 1 or 2 that breaks no rule and puts no zero.
 pub fn legal(random: &mut Random, kind: u32) -> Frame {
     let batch = random.word();
     if kind == 0 {
@@ -11,7 +11,7 @@ pub fn legal(random: &mut Random, kind: u32) -> Frame {
     }
     let count = random.pick(&[1, 2, 3, 32, 33, 4095, 4096]);
     let index = random.below(count as usize) as u32;
-    Frame { batch, index, count, kind, key: random.word(), value: if kind == 1 { random.word() } else { 0 } }
+    Frame { batch, index, count, kind, key: random.word(), value: if kind == 1 { random.word().max(1) } else { 0 } }
 }
 
 pub fn strange_kind(random: &mut Random, frame: &mut Frame) {

@@ -22,12 +22,13 @@ enum Check {
     Range,
     Batch,
     Count,
+    Zero,
     Room,
 }
 
 use Check::*;
 
-const CHECKS: [(Check, u32); 12] = [
+const CHECKS: [(Check, u32); 13] = [
     (BlockShape, 1),
     (InboxShape, 1),
     (BlockSound, 2),
@@ -39,15 +40,20 @@ const CHECKS: [(Check, u32); 12] = [
     (Range, 12),
     (Batch, 8),
     (Count, 9),
+    (Zero, 13),
     (Room, 5),
 ];
 
 type Fails = BTreeSet<Check>;
 
-/// Room is short for a put alone.
+/// Room is short for a put alone, and only a put can put 0.
 fn frame(random: &mut Random, fails: &Fails) -> Frame {
-    let kind = if fails.contains(&Room) { 1 } else { random.below(3) as u32 };
+    let put = fails.contains(&Room) || fails.contains(&Zero);
+    let kind = if put { 1 } else { random.below(3) as u32 };
     let mut frame = planted::legal(random, kind);
+    if fails.contains(&Zero) {
+        frame.value = 0;
+    }
     if fails.contains(&Kind) {
         planted::strange_kind(random, &mut frame);
     }
@@ -82,7 +88,7 @@ fn block(random: &mut Random, frame: &Frame, version: u32, fails: &Fails) -> Vec
     block
 }
 
-/// An inbox in which a frame that finds no room was not heard yet.
+/// An inbox in which the frame was heard or not; one that finds no room was not.
 fn inbox(random: &mut Random, frame: &Frame, fails: &Fails) -> Vec<u32> {
     let batch = if fails.contains(&Batch) { frame.batch ^ 1 << random.below(32) } else { frame.batch };
     let others: Vec<u32> = [1, 2, 3, 64, 4095, 4096].into_iter().filter(|&count| count != frame.count).collect();
@@ -92,8 +98,10 @@ fn inbox(random: &mut Random, frame: &Frame, fails: &Fails) -> Vec<u32> {
         false => frame.count * known as u32,
     };
     let mut inbox = standby::inbox(random, batch, count);
-    if frame.index < 4096 && fails.contains(&Room) {
+    if frame.index < count && fails.contains(&Room) {
         inbox[2 + frame.index as usize / 32] &= !(1 << (frame.index % 32));
+    } else if frame.index < count && random.once_in(2) {
+        frame::hear(&mut inbox, frame.index);
     }
     if fails.contains(&InboxSound) && count < 4096 && random.once_in(2) {
         frame::hear(&mut inbox, count + random.below(4096 - count as usize) as u32);

@@ -43,7 +43,7 @@ pub fn listed(block: &mut [u32], version: usize, map: &Map) -> bool {
     (reply.number, reply.fields) == (0, [words.len() as u32, map.len() as u32]) && reply.words.starts_with(&words)
 }
 
-fn held(block: &mut [u32], version: usize) -> u64 {
+pub fn held(block: &mut [u32], version: usize) -> u64 {
     let [low, high] = run(block, &Call::Held { version: version as u32 }).fields;
     low as u64 | (high as u64) << 32
 }
@@ -137,8 +137,8 @@ impl Site {
         site
     }
 
-    /// After a done union: the destination's entries and minutes, and everything else as it stood.
-    fn done(&self, block: &mut [u32], dest: usize, expected: &Map, minutes: u64) -> Result<(), String> {
+    /// After a done edit: the destination's entries and minutes, and everything else as it stood.
+    pub fn done(&self, block: &mut [u32], dest: usize, expected: &Map, minutes: u64) -> Result<(), String> {
         if !listed(block, dest, expected) || minutes != expected.values().sum() {
             return Err(format!("other entries or minutes than {expected:?}"));
         }
