@@ -65,6 +65,18 @@ static void print(const uint32_t *block, uint32_t version)
         printf("call %u holds %u minutes\n", entries[i], entries[i + 1]);
 }
 
+/* The switch flushes what has gathered in one call: call 1 drops, calls 5 and 6 come in. */
+static void flush(void)
+{
+    static const uint32_t edits[] = { KSK_REMOVE, 1, 0, KSK_PUT, 5, 50, KSK_PUT, 6, 60 };
+    uint32_t size;
+    uint64_t minutes;
+    expect_done("ksk_batch", ksk_batch(primary, KSK_BLOCK_WORDS(N), 1, 1, edits, 3 * KSK_RECORD_WORDS));
+    expect_done("ksk_size", ksk_size(primary, KSK_BLOCK_WORDS(N), 1, &size));
+    expect_done("ksk_held", ksk_held(primary, KSK_BLOCK_WORDS(N), 1, &minutes));
+    printf("flushed: %u calls hold %llu minutes\n", size, (unsigned long long)minutes);
+}
+
 #define ACCOUNTS 4u
 #define OPEN_CALLS 2u /* the version that the ledger is over: it holds the open calls */
 #define SENT 3u       /* what the standby has been sent of it */
@@ -145,6 +157,7 @@ int main(void)
     send(0, 1, 7, 0);
     print(standby, 0);
     damage();
+    flush();
     accounts();
     return 0;
 }

@@ -2,7 +2,7 @@
 
 mod ksk;
 
-use ksk::{Block, Declined, Frame, Inbox, Ledger, Refusal};
+use ksk::{Block, Declined, Edit, Frame, Inbox, Ledger, Refusal};
 use std::error::Error;
 
 /// The version that the ledger is over: it holds the open calls.
@@ -26,6 +26,7 @@ fn main() -> Result<(), Box<dyn Error>> {
     send(&primary, 0, 1, 7, &mut standby, 0)?;
     print(&standby, 0)?;
     damage(&primary, &mut standby)?;
+    flush(&mut primary)?;
     accounts(&mut primary, &mut standby)?;
     Ok(())
 }
@@ -53,6 +54,13 @@ fn damage(primary: &Block, standby: &mut Block) -> Result<(), Refusal> {
     if Frame::parse(&kind) == Err(Refusal::Kind) {
         println!("a damaged line: kind above 2");
     }
+    Ok(())
+}
+
+/// The switch flushes what has gathered in one call: call 1 drops, calls 5 and 6 come in.
+fn flush(primary: &mut Block) -> Result<(), Refusal> {
+    primary.batch(1, 1, &[Edit::Remove { key: 1 }, Edit::Put { key: 5, value: 50 }, Edit::Put { key: 6, value: 60 }])?;
+    println!("flushed: {} calls hold {} minutes", primary.size(1)?, primary.held(1)?);
     Ok(())
 }
 

@@ -15,6 +15,7 @@ extern "C" {
     fn ksk_remove(block: *mut u32, words: usize, dest: c_uint, source: c_uint, key: c_uint, had: *mut u32, old: *mut u32) -> c_uint;
     fn ksk_copy(block: *mut u32, words: usize, dest: c_uint, source: c_uint) -> c_uint;
     fn ksk_clear(block: *mut u32, words: usize, version: c_uint) -> c_uint;
+    fn ksk_batch(block: *mut u32, words: usize, dest: c_uint, source: c_uint, edits: *const u32, edit_words: usize) -> c_uint;
     fn ksk_union(block: *mut u32, words: usize, dest: c_uint, left: c_uint, right: c_uint, rule: c_uint) -> c_uint;
     fn ksk_difference(block: *mut u32, words: usize, dest: c_uint, left: c_uint, right: c_uint, rule: c_uint, cancel: c_uint) -> c_uint;
     fn ksk_list(block: *const u32, words: usize, left: c_uint, right: c_uint, start: c_uint, out: *mut u32, out_words: usize, written: *mut u32, total: *mut u32) -> c_uint;
@@ -49,6 +50,7 @@ pub enum Refusal {
     Range,
     Zero,
     Sum,
+    Edit,
 }
 
 impl fmt::Display for Refusal {
@@ -76,6 +78,13 @@ pub enum Less {
     DropIfEqual = 1,
     Left = 2,
     Minus = 3,
+}
+
+/// One edit of a batch.
+#[derive(Clone, Copy, Debug)]
+pub enum Edit {
+    Put { key: u32, value: u32 },
+    Remove { key: u32 },
 }
 
 /// One entry of a listing; `right` is the right side's value where the key is common.
@@ -111,7 +120,8 @@ fn heard(number: u32, place: u32) -> Result<(), Refusal> {
         12 => Refusal::Range,
         13 => Refusal::Zero,
         14 => Refusal::Sum,
-        other => unreachable!("the table gives numbers 0 to 14, not {other}"),
+        16 => Refusal::Edit,
+        other => unreachable!("the table gives numbers 0 to 14 and 16, not {other}"),
     })
 }
 
@@ -183,6 +193,16 @@ impl Block {
 
     pub fn clear(&mut self, version: u32) -> Result<(), Refusal> {
         done(unsafe { ksk_clear(self.words.as_mut_ptr(), self.words.len(), version) })
+    }
+
+    /// Version `dest` becomes version `source` after the edits, in order: all of them take effect, or none. At most 512.
+    pub fn batch(&mut self, dest: u32, source: u32, edits: &[Edit]) -> Result<(), Refusal> {
+        let record = |edit: &Edit| match *edit {
+            Edit::Put { key, value } => [1, key, value],
+            Edit::Remove { key } => [2, key, 0],
+        };
+        let words: Vec<u32> = edits.iter().flat_map(record).collect();
+        done(unsafe { ksk_batch(self.words.as_mut_ptr(), self.words.len(), dest, source, words.as_ptr(), words.len()) })
     }
 
     pub fn union(&mut self, dest: u32, left: u32, right: u32, rule: Merge) -> Result<(), Refusal> {

@@ -17,7 +17,7 @@
 extern "C" {
 #endif
 
-/* Numbers a call gives back, in the order in which they are checked: 1, 2, 3, 4, 13, 14, 7, 10, 11, 12, 8, 9, 13 of a line, 6, 5. */
+/* Numbers a call gives back, in the order in which they are checked: 1, 2, 3, 4, 16, 13, 14, 7, 10, 11, 12, 8, 9, 13 of a line, 6, 5. */
 #define KSK_DONE     0u
 #define KSK_SHAPE    1u /* block length or N is wrong, or inbox not 130 words */
 #define KSK_DAMAGED  2u /* block not sound, or inbox not sound */
@@ -31,8 +31,9 @@ extern "C" {
 #define KSK_DIGIT    10u /* a byte of a line's 34 is no lower-case hexadecimal digit; place is that of the first, 0 to 33 */
 #define KSK_KIND     11u /* a line's kind is above 2 */
 #define KSK_RANGE    12u /* any other field rule of a line is broken: docs/LINES.md */
-#define KSK_ZERO     13u /* a value of 0 was to be put, by an insert or by a line */
+#define KSK_ZERO     13u /* a value of 0 was to be put, by an insert, a batch or a line */
 #define KSK_SUM      14u /* union rule 4: the sum of a common key is above 4,294,967,295 */
+#define KSK_EDIT     16u /* batch: more than 512 records, a record of another kind, or words that are no whole records */
 
 /* Numbers of the ledger, in the order in which they are checked. */
 #define KSK_ACCOUNTS     21u /* the ledger is not three words for each of 1 to 256 accounts; fresh: or not of the number given */
@@ -51,6 +52,10 @@ extern "C" {
 #define KSK_INBOX_WORDS    130u
 #define KSK_LEDGER_WORDS(accounts) (3u * (accounts)) /* words of 64 bits: topped-up, spent and free minutes of each account */
 #define KSK_ENTRY_WORDS    4u  /* a listing's entry: key, left value, 1 if common else 0, right value or 0 */
+#define KSK_RECORD_WORDS   3u  /* a batch's record: kind, key, value; the value of a remove is not read */
+#define KSK_PUT            1u  /* the kinds of a record */
+#define KSK_REMOVE         2u
+#define KSK_BATCH_RECORDS  512u /* at most */
 #define KSK_LINE_BYTES     35u /* a frame's line: 34 digits and a newline */
 #define KSK_UNKNOWN        4294967295u /* what ksk_missing gives while the count is unknown */
 #define KSK_STACK_BYTES    1048576u /* what a thread must have left on its stack when it makes a call; oracle/stack/run holds every call to it */
@@ -81,6 +86,11 @@ uint32_t ksk_remove(uint32_t *block, size_t words, uint32_t dest, uint32_t sourc
 
 /* Version dest becomes version source. */
 uint32_t ksk_copy(uint32_t *block, size_t words, uint32_t dest, uint32_t source);
+
+/* Version dest becomes version source after the edits of a batch, three words a record, in order; the same key may come again. All take effect or none, and the block is audited once.
+ * The nodes that stood before stay until the end, so a batch may be refused for room where single calls would pass; what it made itself and takes apart is used again at once, so it may
+ * also pass where one of them would not. No records: as ksk_copy. */
+uint32_t ksk_batch(uint32_t *block, size_t words, uint32_t dest, uint32_t source, const uint32_t *edits, size_t edit_words);
 
 /* A version becomes empty. */
 uint32_t ksk_clear(uint32_t *block, size_t words, uint32_t version);

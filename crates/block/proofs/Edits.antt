@@ -1,16 +1,17 @@
 -- A call from entry to exit, whatever its rule: carried out, or refused for room with every word as at entry.
-use mathlib.Core.Path.{_≡_, ap, sym, _∙_}
+use mathlib.Core.Path.{_≡_, refl, ap, sym, subst, _∙_}
 use mathlib.Core.Logic.{_≢_}
-use Prim.Native.Nat.{ℕ, _<_}
-use mathlib.Core.Bool.{false}
+use Prim.Native.Nat.{ℕ, _≤_, _<_}
+use mathlib.Core.Bool.{false, true≢false}
 use mathlib.Core.List.{List}
 use native.Mathlib.Decide.{ℕ-discrete}
 use Rattle.model.specs.Tree.{Tree, Ordered}
 use Rattle.model.specs.Supply.{Make, short}
 use Rattle.model.specs.Heap.{tree, version, supply}
 use Rattle.model.specs.Block.{heap, Words, SoundBlock}
-use Rattle.model.specs.Moves.{Over, Holds, Holding, Gives, Turned, FullBelow, HeldBelow, Swept, Finished}
-use Rattle.model.specs.Calls.{Edited, Refused, Carried}
+use Rattle.model.specs.Moves.{Running, Over, Holds, Holding, Gives, Turned, FullBelow, HeldBelow, Swept, Finished}
+use Rattle.model.specs.Numbers.{NO_ROOM}
+use Rattle.model.specs.Calls.{fails, passes, Edited, Refused, Carried, Ending}
 use Rattle.model.proofs.Sorts.{sound-by-versions}
 use Rattle.model.proofs.Pinned.{undone}
 use Rattle.model.proofs.Growing.{stocked-supply}
@@ -19,7 +20,7 @@ use Rattle.model.proofs.Pieces.{AllNamed, start-holds, over-version}
 use Rattle.model.proofs.Ends.{held-from}
 use Rattle.block.specs.declared.Made.{Made}
 use Rattle.block.specs.declared.Made.the-variants.{At, Full}
-use Rattle.block.specs.Outcome.{treeAt, pieceOf, Outcome}
+use Rattle.block.specs.Outcome.{treeAt, Stands, pieceOf, Outcome, Settled}
 
 module _ {b : List ℕ} (B : SoundBlock b) where
   -- the end of a call in which version d became t
@@ -74,3 +75,32 @@ module _ {b : List ℕ} (B : SoundBlock b) (ps : List ℕ) (N : AllNamed (heap b
 
       sound : SoundBlock after
       sound = record { shaped = W .shaped; sound = sound-by-versions (heap after) (W .kept) (λ v lt. rw (same v lt) (version-ordered (B .sound) v lt)) }
+
+-- the two ends of a call
+pub settled-at : {b e : List ℕ} {v n : ℕ} {q : Made} → q ≡ At n → Finished b e v n → Settled b e v q 0
+settled-at {b} {e} {v} p F = subst (λ q. Settled b e v q 0) (sym p) (refl, F)
+
+pub settled-full : {b e : List ℕ} {q : Made} (v : ℕ) → q ≡ Full → Swept b e → Settled b e v q NO_ROOM
+settled-full {b} {e} v p W = subst (λ q. Settled b e v q NO_ROOM) (sym p) (refl, W)
+
+-- a rule that has run from b to c, of pieces that stood there, making nodes from number `low` on
+pub record Run (b c : List ℕ) (low : ℕ) (made : Made) (rule : Make Tree) : Type 0 where
+  pub sound : SoundBlock b
+  pub low-is : (1 ≤ low) × FullBelow (heap b) low
+  pub pieces : List ℕ
+  pub named : AllNamed (heap b) pieces
+  pub out : Outcome b c pieces made rule
+  pub ordered : Ordered (rule (supply (heap b)) .0)
+
+module _ {b c : List ℕ} {low : ℕ} {made : Made} {rule : Make Tree} (R : Run b c low made rule) where
+  -- what the end asks of the block and of what was made
+  pub run-asks : Running c × Stands (heap c) made × (1 ≤ low) × HeldBelow (heap c) low
+  run-asks = (R .out .came .running, R .out .named, R .low-is .0, held (R .sound) (R .pieces) (R .named) (R .low-is .1) (R .out))
+
+  -- and what it gives
+  pub run-ends : {after : List ℕ} {v n : ℕ} → Settled c after v made n → Words b → Words after → Ending b after v rule n
+  run-ends {after} {v} {n} S wb wa = go made (R .out) S
+    where
+      go : (m : Made) → Outcome b c (R .pieces) m rule → Settled c after v m n → Ending b after v rule n
+      go (At k) O (z, F) = let C = carried (R .sound) (R .pieces) (R .named) O (R .ordered) F in passes (C .enough) (z, C .edited)
+      go Full O (z, W) = let X = refused (R .sound) (R .pieces) (R .named) O W wb wa in fails (λ e. true≢false (sym (X .short) ∙ e)) (z, X .same)

@@ -1,10 +1,13 @@
--- What a function that makes nodes gives back.
+-- What a function that makes nodes gives back, and how an edit ends.
+use mathlib.Core.Path.{_≡_}
 use Prim.Native.Nat.{ℕ}
+use mathlib.Core.Bool.{Bool, true, false}
 use Rattle.model.specs.Tree.{Tree}
 use Rattle.model.specs.Supply.{Make}
 use Rattle.model.specs.Heap.{Heap, Named, tree}
 use Rattle.model.specs.Block.{heap}
-use Rattle.model.specs.Moves.{Came}
+use Rattle.model.specs.Numbers.{NO_ROOM}
+use Rattle.model.specs.Moves.{Came, Swept, Finished}
 use mathlib.Core.List.{List, [], _∷_}
 use mathlib.Core.Option.{Option, none, some}
 use Rattle.block.specs.declared.Node.{Node}
@@ -17,6 +20,10 @@ use Rattle.block.specs.declared.Made.the-variants.{At, Full}
 abbrev pub answer : Found → Option ℕ
 answer (Value v) = some v
 answer Absent = none
+
+abbrev pub isAbsent : Found → Bool
+isAbsent (Value v) = false
+isAbsent Absent = true
 
 -- the tree below what was made
 abbrev pub treeAt : Heap → Made → Option Tree
@@ -41,3 +48,8 @@ pub record Outcome (b e ps : List ℕ) (q : Made) (m : Make Tree) : Type 0 where
 -- node n without its size and count
 abbrev pub nodeOf : Heap → ℕ → Node
 nodeOf h n = record { key = h .key n; value = h .value n; left = h .left n; right = h .right n }
+
+-- version v took what was made, or what was made is given up again
+abbrev pub Settled : (b e : List ℕ) (v : ℕ) → Made → ℕ → Type 0
+Settled b e v (At n) r = (r ≡ 0) × Finished b e v n
+Settled b e v Full r = (r ≡ NO_ROOM) × Swept b e

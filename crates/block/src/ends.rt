@@ -1,4 +1,5 @@
 // Giving up, and the end of a call.
+use crate::Made;
 use crate::node_word;
 use crate::raise;
 use crate::root;
@@ -10,6 +11,9 @@ ghost use Prim.Native.Nat.{ℕ, _+_, _<_, _≤_};
 ghost use Rattle.model.specs.Heap.{Named, Occupied, Linked};
 ghost use Rattle.model.specs.Moves.{Lowered, Emptied, Owed, Paid, Unnamed, Freed, Rooted, Running, HeldBelow, Tidied, Swept, Finished};
 ghost use Rattle.model.specs.Block.{heap, room, nodeWord, Shaped};
+ghost use Rattle.block.specs.Outcome.{Stands, Settled};
+
+const NO_ROOM: u32 = 5;
 
 // One reference fewer to node n: the count that is left.
 pub fn lower(b: &mut [u32], n: u32) -> u32
@@ -116,4 +120,17 @@ pub fn finish(b: &mut [u32], v: u32, n: u32, from: u32)
     set_root(b, v, n);
     give_up(b, old);
     sweep(b, from);
+}
+
+// The end of an edit: version v takes what was made, or what was made is given up again.
+pub fn settle(b: &mut [u32], v: u32, from: u32, made: Made) -> u32
+    requires { ⌜ Running (now b) × (v < 16) × Stands (heap (now b)) made × (1 ≤ from) × HeldBelow (heap (now b)) from ⌝ }
+    ensures { λ r. ⌜ Settled (now (b .entry)) (now (b .exit)) v made r ⌝ }
+{
+    let Made::At(n) = made else {
+        sweep(b, from);
+        return NO_ROOM;
+    };
+    finish(b, v, n, from);
+    0
 }

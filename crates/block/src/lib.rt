@@ -16,7 +16,7 @@ ghost use Rattle.model.specs.Moves.{Raised, Holding, FullBelow};
 ghost use Rattle.model.specs.Block.{heap, room, width, nodeWord, occupiedAt, Shaped};
 ghost use Rattle.model.specs.Supply.{make};
 ghost use Rattle.block.specs.Words.{FullWords};
-ghost use Rattle.block.specs.Outcome.{Outcome, nodeOf};
+ghost use Rattle.block.specs.Outcome.{Outcome, isAbsent, nodeOf};
 
 // A node without its size and count.
 pub struct Node {
@@ -30,6 +30,16 @@ pub struct Node {
 pub enum Found {
     Value(u32),
     Absent,
+}
+
+// Whether there is none.
+pub fn is_absent(f: Found) -> bool
+    ensures { λ r. ⌜ r ≡ isAbsent f ⌝ }
+{
+    match f {
+        Found::Value(_) => false,
+        Found::Absent => true,
+    }
 }
 
 // The node that was made, if there was room.

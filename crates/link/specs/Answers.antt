@@ -2,16 +2,15 @@
 use mathlib.Core.Path.{_≡_}
 use mathlib.Core.Logic.{_⊎_}
 use Prim.Native.Nat.{ℕ, _≤_, _<_}
-use mathlib.Core.Bool.{false}
 use mathlib.Core.List.{List}
 use lib.ListN.{length}
 use Rattle.model.specs.Tree.{Tree}
-use Rattle.model.specs.Supply.{Make, short}
-use Rattle.model.specs.Heap.{version, supply}
+use Rattle.model.specs.Supply.{Make}
+use Rattle.model.specs.Heap.{version}
 use Rattle.model.specs.Block.{heap, Shaped, SoundBlock}
 use Rattle.model.specs.Inbox.{batchOf, countOf, SoundInbox}
-use Rattle.model.specs.Numbers.{SHAPE, DAMAGED, VERSION, NO_ROOM, BATCH, COUNT, ZERO}
-use Rattle.model.specs.Calls.{Check, Edited}
+use Rattle.model.specs.Numbers.{SHAPE, DAMAGED, VERSION, BATCH, COUNT, ZERO}
+use Rattle.model.specs.Calls.{Check, Ending}
 use Rattle.model.specs.Link as link
 use Rattle.model.specs.Link.{frameRule, Step, PutsZero}
 use Rattle.frame.specs.declared.Frame.{Frame}
@@ -42,8 +41,7 @@ ruleOf b v f = frameRule (fieldsOf f) (version (heap b) v)
 
 -- the edit of a frame: NO_ROOM and nothing changed, or the version becomes the rule's tree
 abbrev pub Editing : (b after : List ℕ) (v : ℕ) → Frame → ℕ → Type 0
-Editing b after v f n =
-    Check (short (ruleOf b v f (supply (heap b)) .1) ≡ false) ((n ≡ NO_ROOM) × (after ≡ b)) ((n ≡ 0) × Edited b after v (ruleOf b v f (supply (heap b)) .0))
+Editing b after v f n = Ending b after v (ruleOf b v f) n
 
 -- a frame of the inbox's batch, and a block and an inbox that may take it
 pub record Fit (b x : List ℕ) (v : ℕ) (f : Frame) : Type 0 where

@@ -1,6 +1,6 @@
 // The calls of the link: what a line says, and what a standby does with it. Begin and the missing question are the inbox's own.
 use audit::audit;
-use block::Made;
+use block::ends::settle;
 use block::makes_from;
 use block::root;
 use frame::Fault;
@@ -10,23 +10,16 @@ use inbox::heard;
 use inbox::mark;
 use inbox::missing;
 use inbox::sound;
-use table::edits::is_absent;
-use table::edits::settle;
-use table::edits::without;
-use tree::find;
-use tree::insert;
 ghost use mathlib.Core.Path.{_≡_};
 ghost use mathlib.Core.Logic.{_⊎_};
 ghost use Prim.Native.Nat.{_<_};
-ghost use Rattle.model.specs.Block.{heap, SoundBlock};
+ghost use Rattle.model.specs.Block.{SoundBlock};
 ghost use Rattle.model.specs.Inbox.{countOf, heardAt, SoundInbox};
 ghost use Rattle.model.specs.Tells.{Tells};
 ghost use Rattle.model.specs.Frame as lines;
 ghost use Rattle.model.specs.Link.{Parse, Takes, PutsZero, Receive};
 ghost use Rattle.frame.specs.Fields.{fieldsOf};
-ghost use mathlib.Core.List.{[], _∷_};
-ghost use Rattle.block.specs.Outcome.{Outcome};
-ghost use Rattle.link.specs.Answers.{heardOf, step, Ready, Belongs, ruleOf, Editing, Fit};
+ghost use Rattle.link.specs.Answers.{heardOf, step, Ready, Belongs, Editing, Fit};
 
 const SHAPE: u32 = 1;
 
@@ -163,29 +156,14 @@ fn belongs(x: &[u32], f: Frame) -> u32
     0
 }
 
-// A put inserts, a remove removes, and "nothing" makes nothing.
-fn apply(b: &mut [u32], version: u32, f: Frame) -> Made
-    requires { ⌜ SoundBlock (now b) × (version < 16) ⌝ }
-    ensures { λ r. ⌜ Outcome (now (b .entry)) (now (b .exit)) (heap (now (b .entry)) .root version ∷ []) r (ruleOf (now (b .entry)) version f) ⌝ }
-{
-    let source = root(b, version);
-    if f.kind == 0 {
-        return Made::At(source);
-    }
-    let found = find(b, source, f.key);
-    if f.kind == 1 {
-        return insert(b, is_absent(found), source, f.key, f.value);
-    }
-    without(b, source, f.key, found)
-}
-
-// The edit of a frame from its first make to its end.
+// The edit of a frame from its first make to its end: a put inserts, a remove removes, and "nothing" makes nothing.
 fn edit(b: &mut [u32], version: u32, f: Frame) -> u32
     requires { ⌜ SoundBlock (now b) × (version < 16) ⌝ }
     ensures { λ r. ⌜ Editing (now (b .entry)) (now (b .exit)) version f r ⌝ }
 {
     let from = makes_from(b);
-    let made = apply(b, version, f);
+    let source = root(b, version);
+    let made = tree::edit(b, source, f.kind, f.key, f.value);
     settle(b, version, from, made)
 }
 

@@ -1,6 +1,6 @@
 -- Document 01's small trees worked through: cases 1 to 8 in one table under one claim, by computation. Rows with number 0 hold down what those cases leave open.
 use mathlib.Core.Path.{_≡_, refl}
-use Prim.Native.Nat.{ℕ}
+use Prim.Native.Nat.{ℕ, _*_}
 use mathlib.Core.Bool.{Bool, false, _||_}
 use mathlib.Core.Option.{Option, some}
 use mathlib.Core.List.{List, [], _∷_, _++_, map}
@@ -8,14 +8,15 @@ use lib.ListN.{length, replicate, set}
 use lib.Dec.{eqb}
 use Rattle.model.specs.Tree.{Tree, leaf, node, Entry, size, idOf, lookup, entries}
 use Rattle.model.specs.Supply.{Supply, firstOf, afterFirst, isNone, among, next, taken, back, given}
-use Rattle.model.specs.Rules.{twice, rotateLeft, rotateRight, balanced, insertBy, insert, removeMin, withoutKey, removePresent, remove, join, split, unionBy, union, rest, difference, mergeBy, diffBy}
+use Rattle.model.specs.Rules.{twice, rotateLeft, rotateRight, balanced, insertBy, insert, removeMin, withoutKey, removePresent, remove, editBy, join, split, unionBy, union, rest, difference, mergeBy, diffBy}
 use Rattle.model.specs.Listing.{Row, turn, tooDeep, walk, listing}
 use Rattle.model.specs.Delta.{Change, changed, puts, removes, delta}
 use Rattle.model.specs.Heap.{load, tree, version, freeFrom, free}
 use Rattle.model.specs.Block.{heap}
 use Rattle.model.specs.Frame.{Frame, digit, value, digits, number, line, kindLegal, legal, fields, Reading, fault, firstBad, judged, read, parse, nothing, frameOf, numbered, framesOf, frames}
-use Rattle.model.specs.Numbers.{SHAPE, DAMAGED, VERSION, RULE, NO_ROOM, TOO_DEEP, FRAME, BATCH, COUNT, DIGIT, KIND, RANGE, ZERO, SUM}
+use Rattle.model.specs.Numbers.{SHAPE, DAMAGED, VERSION, RULE, NO_ROOM, TOO_DEEP, FRAME, BATCH, COUNT, DIGIT, KIND, RANGE, ZERO, SUM, EDIT}
 use Rattle.model.specs.Calls.{freshBlock}
+use Rattle.model.specs.Batch.{Record, batchRule}
 use Rattle.model.specs.Lists.{rowWords, laid, part, listed, framed}
 use Rattle.model.proofs.Small.{before, amid}
 
@@ -106,6 +107,24 @@ gathered =
     let r = built l leaf ((2, 21) ∷ (4, 41) ∷ (6, 61) ∷ []) in
     union (mergeBy 4) l r (supplyBeside l r) .0
 
+-- case 2's four inserts in one batch: each takes apart what the one before it made
+abbrev together : Tree
+together =
+    let put : ℕ → Record = λ k. record { kind = 1; key = k; value = 10 * k } in
+    batchRule (put 1 ∷ put 2 ∷ put 3 ∷ put 4 ∷ []) leaf (supplyBeside leaf leaf) .0
+
+-- the same key again, an absent key, and a remove whose value is not read
+abbrev again : Tree
+again =
+    batchRule (
+    record { kind = 1; key = 1; value = 10 }
+    ∷ record { kind = 1; key = 1; value = 11 }
+    ∷ record { kind = 2; key = 7; value = 0 }
+    ∷ record { kind = 1; key = 2; value = 20 }
+    ∷ record { kind = 2; key = 1; value = 5 }
+    ∷ []
+    ) leaf (supplyBeside leaf leaf) .0
+
 -- document 01's example: the line 000000070000000101000000030000001f
 abbrev example : Frame
 example = record { batch = 7; index = 0; count = 1; kind = 1; key = 3; value = 31 }
@@ -186,6 +205,8 @@ table =
       shown = stands gathered;
       told = stands (node 12 4 41 (node 11 2 41 (node 6 1 10 leaf leaf) (node 10 3 30 leaf leaf)) (node 5 5 50 leaf (node 4 6 61 leaf leaf)));
     }
+    ∷ record { number = 0; shown = stands together; told = stands (node 4 2 20 (node 3 1 10 leaf leaf) (node 2 3 30 leaf (node 1 4 40 leaf leaf))) }
+    ∷ record { number = 0; shown = stands again; told = stands (node 1 2 20 leaf leaf) }
     ∷ record { number = 0; shown = writes (part 4 1 11 (map rowWords (listing (four .0) copy .rows))); told = writes (3 ∷ 30 ∷ 1 ∷ 30 ∷ 4 ∷ 40 ∷ 1 ∷ 44 ∷ []) }
     ∷ record { number = 0; shown = writes (part 4 2 8 (map rowWords (listing three leaf .rows))); told = writes (3 ∷ 30 ∷ 0 ∷ 0 ∷ []) }
     ∷ record { number = 0; shown = writes (laid (listed before 0 1 .pieces)); told = writes (1 ∷ 10 ∷ 0 ∷ 0 ∷ []) }
@@ -204,8 +225,8 @@ table =
     ∷ record { number = 0; shown = gives (read (spoilt 17 50 15 49)); told = gives (fault 12 0) }
     ∷ record {
       number = 0;
-      shown = writes (SHAPE ∷ DAMAGED ∷ VERSION ∷ RULE ∷ NO_ROOM ∷ TOO_DEEP ∷ FRAME ∷ BATCH ∷ COUNT ∷ DIGIT ∷ KIND ∷ RANGE ∷ ZERO ∷ SUM ∷ []);
-      told = writes (1 ∷ 2 ∷ 3 ∷ 4 ∷ 5 ∷ 6 ∷ 7 ∷ 8 ∷ 9 ∷ 10 ∷ 11 ∷ 12 ∷ 13 ∷ 14 ∷ []);
+      shown = writes (SHAPE ∷ DAMAGED ∷ VERSION ∷ RULE ∷ NO_ROOM ∷ TOO_DEEP ∷ FRAME ∷ BATCH ∷ COUNT ∷ DIGIT ∷ KIND ∷ RANGE ∷ ZERO ∷ SUM ∷ EDIT ∷ []);
+      told = writes (1 ∷ 2 ∷ 3 ∷ 4 ∷ 5 ∷ 6 ∷ 7 ∷ 8 ∷ 9 ∷ 10 ∷ 11 ∷ 12 ∷ 13 ∷ 14 ∷ 16 ∷ []);
     }
     ∷ record { number = 0; shown = writes (freshBlock 32); told = writes (32 ∷ replicate 273 0) }
     ∷ record { number = 0; shown = stands (version (heap amid) 0); told = stands (node 4 1 10 leaf (node 3 2 4294967295 leaf leaf)) }
@@ -214,5 +235,5 @@ table =
 
 -- every case shows what document 01 says
 pub worked-cases : map (λ (c : Case). c .shown) table ≡ map (λ (c : Case). c .told) table
-unfolding table shape keys occurs supplyBeside built size idOf lookup entries firstOf afterFirst isNone among next taken back given freeFrom twice rotateLeft rotateRight balanced insertBy insert removeMin withoutKey removePresent remove join split unionBy union rest difference mergeBy diffBy turn tooDeep walk listing changed puts removes delta digit value digits number line kindLegal legal fields firstBad judged read parse frameOf numbered framesOf freshBlock rowWords laid load tree before amid
+unfolding table shape keys occurs supplyBeside built size idOf lookup entries firstOf afterFirst isNone among next taken back given freeFrom twice rotateLeft rotateRight balanced insertBy insert removeMin withoutKey removePresent remove editBy batchRule join split unionBy union rest difference mergeBy diffBy turn tooDeep walk listing changed puts removes delta digit value digits number line kindLegal legal fields firstBad judged read parse frameOf numbered framesOf freshBlock rowWords laid load tree before amid
 worked-cases = refl

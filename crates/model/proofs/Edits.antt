@@ -1,14 +1,14 @@
--- Split and remove against the plain list of entries.
+-- Split, remove and an edit by its kind against the plain list of entries.
 use mathlib.Core.Path.{_≡_, refl, ap, sym, _∙_}
-use Prim.Native.Nat.{ℕ, compare, Ordering, Ordering·lt, Ordering·eq, Ordering·gt}
+use Prim.Native.Nat.{ℕ, zero, suc, compare, Ordering, Ordering·lt, Ordering·eq, Ordering·gt}
 use mathlib.Core.Option.{Option, none, some}
 use mathlib.Core.List.{List, [], _∷_, _++_, append-assoc, append-nil}
 use lib.ListN.{length, length-append}
 use native.Mathlib.Omega.{arith}
-use Rattle.model.specs.Tree.{Tree, leaf, node, Entry, size, lookup, entries, Cut, cut, find, without, Ordered}
+use Rattle.model.specs.Tree.{Tree, leaf, node, Entry, size, lookup, entries, Cut, cut, find, without, setBy, Ordered}
 use Rattle.model.specs.Supply.{Supply, Make, given}
-use Rattle.model.specs.Rules.{balanced, removeMin, withoutKey, removePresent, remove, Parts, split}
-use Rattle.model.proofs.Entries.{Keeps, balanced-keeps, join-keeps, cut-less, cut-same, cut-more, lookup-entries}
+use Rattle.model.specs.Rules.{balanced, removeMin, withoutKey, removePresent, remove, editBy, Parts, split}
+use Rattle.model.proofs.Entries.{Keeps, balanced-keeps, join-keeps, cut-less, cut-same, cut-more, lookup-entries, insert-entries}
 
 pub size-length : (t : Tree) → size t ≡ length (entries t)
 unfolding size entries
@@ -59,6 +59,12 @@ remove-entries t k s o = go (lookup t k) refl
     go : (f : Option ℕ) → lookup t k ≡ f → entries (remove t k s .0) ≡ without (entries t) k
     go none e = rw (e, remove) (sym (cut-none (entries t) k (sym (lookup-entries t k o) ∙ e)))
     go (some w) e = rw (e, remove) (removePresent-entries t k s o)
+
+pub editBy-entries : (kind k v : ℕ) (t : Tree) (s : Supply) → Ordered t → entries (editBy kind k v t s .0) ≡ setBy kind k v (entries t)
+unfolding editBy setBy
+editBy-entries zero k v t s o = refl
+editBy-entries (suc zero) k v t s o = insert-entries t k v s o
+editBy-entries (suc (suc n)) k v t s o = remove-entries t k s o
 
 -- what a split shows
 abbrev pub shown : Parts → Cut

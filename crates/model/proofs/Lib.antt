@@ -69,3 +69,4 @@ pub mod Once
 pub mod Meanings
 pub mod Refusals
 pub mod Zeros
+pub mod Batches

@@ -1,10 +1,10 @@
 -- Every rule keeps the order of keys: its entries ascend.
-use Prim.Native.Nat.{ℕ}
+use Prim.Native.Nat.{ℕ, zero, suc}
 use mathlib.Core.Bool.{false}
 use mathlib.Core.Option.{Option}
 use Rattle.model.specs.Tree.{Tree, node, entries, cut, Ordered}
 use Rattle.model.specs.Supply.{Supply, Make}
-use Rattle.model.specs.Rules.{balanced, insert, remove, join, split, union, difference}
+use Rattle.model.specs.Rules.{balanced, insert, remove, editBy, join, split, union, difference}
 use Rattle.model.proofs.Entries.{Keeps, balanced-keeps, join-keeps, insert-entries}
 use Rattle.model.proofs.Edits.{remove-entries}
 use Rattle.model.proofs.Sorts.{ordered-sorted, sorted-ordered, sorted-join}
@@ -30,6 +30,12 @@ insert-ordered t k v s o =
 
 pub remove-ordered : (t : Tree) (k : ℕ) (s : Supply) → Ordered t → Ordered (remove t k s .0)
 remove-ordered t k s o = sorted-ordered (remove t k s .0) (rw (remove-entries t k s o) (sorted-without (entries t) k (ordered-sorted t o)))
+
+pub editBy-ordered : (kind k v : ℕ) (t : Tree) (s : Supply) → Ordered t → Ordered (editBy kind k v t s .0)
+unfolding editBy
+editBy-ordered zero k v t s o = o
+editBy-ordered (suc zero) k v t s o = insert-ordered t k v s o
+editBy-ordered (suc (suc n)) k v t s o = remove-ordered t k s o
 
 pub split-ordered : (t : Tree) (k : ℕ) (s : Supply) → Ordered t → Ordered (split t k s .0 .left) × Ordered (split t k s .0 .right)
 split-ordered t k s o = let S = split-facts t k s o in (S .ordered-left, S .ordered-right)

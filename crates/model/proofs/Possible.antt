@@ -10,7 +10,7 @@ use lib.Dec.{eqb}
 use native.Mathlib.Omega.{arith}
 use Rattle.model.specs.Tree.{Tree, leaf, node, size, idOf, lookup, entries, cut, find}
 use Rattle.model.specs.Supply.{firstOf, afterFirst, isNone, among, next, taken, back, given, short}
-use Rattle.model.specs.Rules.{balanced, insertBy, insert, withoutKey, removePresent, remove}
+use Rattle.model.specs.Rules.{balanced, insertBy, insert, withoutKey, removePresent, remove, editBy}
 use Rattle.model.specs.Listing.{turn, tooDeep, walk, listing}
 use Rattle.model.specs.Delta.{changed, puts, removes, delta, deltaDeep}
 use Rattle.model.specs.Heap.{version, freeFrom, supply}
@@ -79,11 +79,11 @@ unfolding legal kindLegal
 remove-said = parse-line removing refl (record { batch = omega arith; key = omega arith; value = omega arith })
 
 put-done : (short (frameRule putting (version (heap before) 0) (supply (heap before)) .1) ≡ false) × (frameRule putting (version (heap before) 0) (supply (heap before)) .0 ≡ version (heap amid) 0)
-unfolding frameRule size lookup firstOf afterFirst isNone among next taken back given short balanced insertBy insert supply freeFrom before
+unfolding frameRule editBy size lookup firstOf afterFirst isNone among next taken back given short balanced insertBy insert supply freeFrom before
 put-done = rw (before-trees .0, amid-trees .0) (refl, refl)
 
 remove-done : (short (frameRule removing (version (heap amid) 0) (supply (heap amid)) .1) ≡ false) × (frameRule removing (version (heap amid) 0) (supply (heap amid)) .0 ≡ version (heap done) 0)
-unfolding frameRule size lookup firstOf afterFirst isNone among next taken back given short removePresent withoutKey remove supply freeFrom amid
+unfolding frameRule editBy size lookup firstOf afterFirst isNone among next taken back given short removePresent withoutKey remove supply freeFrom amid
 remove-done = rw (amid-trees .0, done-trees .0) (refl, refl)
 
 abbrev half : List ℕ
@@ -147,7 +147,7 @@ module _ (b : List ℕ) (B : SoundBlock b) (v batch : ℕ) (lt : v < 16) (fits :
   said = parse-line (nothing batch) refl (record { batch = fits; key = omega arith; value = omega arith })
 
   quiet : Receive (record { block = b; inbox = begun batch; block′ = b; inbox′ = heard; answer = record { number = 0; again = 0; missing = missing heard; place = 0 } }) v (line (nothing batch))
-  unfolding frameRule
+  unfolding frameRule editBy
   quiet = received (nothing batch) B (begun-sound batch) lt said (record { batch = sym (begun-batch batch); counts = inl (begun-count batch); worth = λ z. omega (arith, z .0) }) (begun-heard batch 0)
       (stocked-supply (heap b) .enough) (record { sound = B; room-kept = refl; here = refl; others = λ w l ne. refl })
 

@@ -8,15 +8,14 @@ use mathlib.Core.List.{List, [], _∷_}
 use lib.ListN.{length}
 use native.Mathlib.Omega.{arith}
 use native.Mathlib.Decide.{ℕ-discrete}
-use Rattle.model.specs.Tree.{Tree, Entry, entries, find, put, without, Sorted, Ordered, Is}
+use Rattle.model.specs.Tree.{Tree, Entry, entries, find, setBy, Sorted, Ordered, Is}
 use Rattle.model.specs.Supply.{Supply}
 use Rattle.model.specs.Delta.{Change, changeAt, Carries}
 use Rattle.model.specs.Frame.{Frame, frameOf, framesOf, frameAt}
 use Rattle.model.specs.Block.{Words}
 use Rattle.model.specs.Inbox.{batchOf, countOf, heardAt, SoundInbox, begun, marked, Complete}
 use Rattle.model.specs.Link.{frameRule}
-use Rattle.model.proofs.Entries.{insert-entries}
-use Rattle.model.proofs.Edits.{remove-entries}
+use Rattle.model.proofs.Edits.{editBy-entries}
 use Rattle.model.proofs.Finds.{sorted-ext}
 use Rattle.model.proofs.Maps.{updated, updated-at, updated-other, put-is, without-is}
 use Rattle.model.proofs.Frames.{frames-length, frames-few, frame-at, frames-count}
@@ -25,24 +24,16 @@ use Rattle.model.proofs.Missing.{missing-zero}
 
 -- the edit of a frame on plain entries
 unfoldable pub edited : Frame → List Entry → List Entry
-edited f es = elim (f .kind) [
-  | zero ↦ es
-  | suc k ↦ elim k [ zero ↦ put es (f .key) (f .value) | suc j ↦ without es (f .key) ]
-]
+edited f es = setBy (f .kind) (f .key) (f .value) es
 
 -- it is what the frame's tree rule does
 pub frame-entries : (f : Frame) (t : Tree) (s : Supply) → Ordered t → entries (frameRule f t s .0) ≡ edited f (entries t)
 unfolding frameRule edited
-frame-entries f t s o = go (f .kind) refl
-  where
-    go : (k : ℕ) → f .kind ≡ k → entries (frameRule f t s .0) ≡ edited f (entries t)
-    go zero e = rw (e, frameRule) refl
-    go (suc zero) e = rw (e, frameRule) (insert-entries t (f .key) (f .value) s o)
-    go (suc (suc k)) e = rw (e, frameRule) (remove-entries t (f .key) s o)
+frame-entries f t s o = editBy-entries (f .kind) (f .key) (f .value) t s o
 
 -- the edit of a change's frame sets its key to what the change says
 edited-is : (batch count i : ℕ) (c : Change) (xs : List Entry) → Sorted xs → Is (edited (frameOf batch count i c) xs) (updated c (find xs))
-unfolding frameOf edited
+unfolding frameOf edited setBy
 edited-is batch count i c xs s = go (c .key) (c .now)
   where
     go : (k : ℕ) (o : Option ℕ) → Is (edited (frameOf batch count i (record { key = k; now = o })) xs) (updated (record { key = k; now = o }) (find xs))
@@ -88,7 +79,7 @@ change-edits A fs cs C i h xs ys I = record { sorted = I .sorted; here = λ _. a
 -- the edit of a frame, "nothing" too
 frame-edits : (batch : ℕ) (A : ℕ → Option ℕ) (fs : List Entry) (cs : List Change) → Carries A (find fs) cs → (i : ℕ) → i < length (framesOf batch cs)
     → (xs : List Entry) → Sorted xs → Edits fs cs i xs (edited (frameAt (framesOf batch cs) i) xs)
-unfolding framesOf edited
+unfolding framesOf edited setBy
 frame-edits batch A fs [] C zero h xs s = record { sorted = s; here = λ p. absurd (omega arith); moves = λ k. inr refl }
 frame-edits batch A fs [] C (suc i) h xs s = absurd (omega arith)
 frame-edits batch A fs (c ∷ cs) C i h xs s =

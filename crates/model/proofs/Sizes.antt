@@ -7,9 +7,9 @@ use mathlib.Core.List.{_∷_}
 use lib.ListN.{length, length-append}
 use lib.Dec.{leb, eqb}
 use native.Mathlib.Omega.{arith}
-use Rattle.model.specs.Tree.{Tree, leaf, node, size, entries}
+use Rattle.model.specs.Tree.{Tree, leaf, node, size, lookup, entries}
 use Rattle.model.specs.Supply.{Supply, Make, make, given}
-use Rattle.model.specs.Rules.{balanced, insertBy, removeMin, withoutKey, removePresent, join, split, mergedLeft, mergedRight, unionBy, rest, kept, difference}
+use Rattle.model.specs.Rules.{balanced, insertBy, insert, removeMin, withoutKey, removePresent, remove, editBy, join, split, mergedLeft, mergedRight, unionBy, rest, kept, difference}
 use Rattle.model.proofs.Entries.{Keeps, make-keeps, balanced-keeps, join-keeps}
 use Rattle.model.proofs.Edits.{size-length, removeMin-entries, withoutKey-entries}
 
@@ -53,6 +53,29 @@ removePresent-size (node i h w l r) k s = go (compare k h) refl (removePresent-s
     go Ordering·lt e x y = let a = removePresent l k (given i s) in rw (e, removePresent) (omega (arith, balanced-size h w (a .0) r (a .1)))
     go Ordering·eq e x y = rw (e, removePresent) (omega (arith, withoutKey-size balanced balanced-keeps l r (given i s)))
     go Ordering·gt e x y = let a = removePresent r k (given i s) in rw (e, removePresent) (omega (arith, balanced-size h w l (a .0) (a .1)))
+
+insert-size : (t : Tree) (k v : ℕ) (s : Supply) → size (insert t k v s .0) ≤ suc (size t)
+unfolding insert
+insert-size t k v s = go (lookup t k) refl
+  where
+    go : (f : Option ℕ) → lookup t k ≡ f → size (insert t k v s .0) ≤ suc (size t)
+    go none e = rw (e, insert) (insertBy-size balanced balanced-keeps t k v s)
+    go (some w) e = rw (e, insert) (insertBy-size make make-keeps t k v s)
+
+remove-size : (t : Tree) (k : ℕ) (s : Supply) → size (remove t k s .0) ≤ size t
+unfolding remove
+remove-size t k s = go (lookup t k) refl
+  where
+    go : (f : Option ℕ) → lookup t k ≡ f → size (remove t k s .0) ≤ size t
+    go none e = rw (e, remove) (omega arith)
+    go (some w) e = rw (e, remove) (removePresent-size t k s)
+
+-- an edit adds one at the most
+pub editBy-size : (kind k v : ℕ) (t : Tree) (s : Supply) → size (editBy kind k v t s .0) ≤ suc (size t)
+unfolding editBy
+editBy-size zero k v t s = omega arith
+editBy-size (suc zero) k v t s = insert-size t k v s
+editBy-size (suc (suc n)) k v t s = omega (arith, remove-size t k s)
 
 -- the two sides of a key together
 pub split-size : (t : Tree) (k : ℕ) (s : Supply) → size (split t k s .0 .left) + size (split t k s .0 .right) ≤ size t

@@ -1,11 +1,11 @@
 -- A make that finds no free node is not undone: a supply that fell short stays so under every rule.
 use mathlib.Core.Path.{_≡_, refl}
-use Prim.Native.Nat.{ℕ}
+use Prim.Native.Nat.{ℕ, zero, suc}
 use mathlib.Core.Bool.{Bool, true, false, _||_}
 use mathlib.Core.Option.{Option}
 use Rattle.model.specs.Tree.{Tree, node}
 use Rattle.model.specs.Supply.{Supply, Make, make, _>>=_, firstOf, isNone, next, taken, given, short}
-use Rattle.model.specs.Rules.{balanced, insertBy, insert, removeMin, withoutKey, removePresent, remove, join, split, unionBy, union, rest, difference}
+use Rattle.model.specs.Rules.{balanced, insertBy, insert, removeMin, withoutKey, removePresent, remove, editBy, join, split, unionBy, union, rest, difference}
 use Rattle.model.proofs.Keeping.{Keeping, make-ok, balanced-ok, insertBy-ok, insert-ok, removeMin-ok, withoutKey-ok, removePresent-ok, remove-ok, join-ok, split-ok, unionBy-ok, union-ok, rest-ok, difference-ok}
 
 -- a supply that fell short stays so
@@ -57,6 +57,12 @@ removePresent-onward t k s e = removePresent-ok keeping t k tt s e .1
 
 pub remove-onward : (t : Tree) (k : ℕ) → Onward (remove t k)
 remove-onward t k s e = remove-ok keeping t k tt s e .1
+
+pub editBy-onward : (kind k v : ℕ) (t : Tree) → Onward (editBy kind k v t)
+unfolding editBy
+editBy-onward zero k v t s e = e
+editBy-onward (suc zero) k v t s e = insert-onward t k v s e
+editBy-onward (suc (suc n)) k v t s e = remove-onward t k s e
 
 pub join-onward : (k v : ℕ) (l r : Tree) → Onward (join k v l r)
 join-onward k v l r s e = join-ok keeping k v l r tt tt s e .1

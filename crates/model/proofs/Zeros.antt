@@ -1,22 +1,23 @@
--- No call brings a zero in: where no version of a block holds one, none does after any edit and any line. So a table that began fresh sends none, as demand 3 asks.
+-- No call brings a zero in: where no version of a block holds one, none does after any edit, any batch and any line. So a table that began fresh sends none, as demand 3 asks.
 use mathlib.Core.Path.{_≡_, refl, ap, sym, _∙_}
 use mathlib.Core.Logic.{_≢_}
 use Prim.Native.Nat.{ℕ, zero, suc, _-_, _<_}
 use mathlib.Core.Bool.{Bool, true, false}
 use mathlib.Core.Option.{Option, none, some}
-use mathlib.Core.List.{List}
+use mathlib.Core.List.{List, [], _∷_}
 use lib.Dec.{eqb, ltb}
 use borrow.Author.Tests.{ltb-true}
 use native.Mathlib.Omega.{arith}
 use native.Mathlib.Decide.{ℕ-discrete}
-use Rattle.model.specs.Tree.{Entry, entries, cut, find, put, without, both, less, Sorted, Is}
+use Rattle.model.specs.Tree.{Entry, entries, cut, find, put, without, setBy, both, less, Sorted, Is}
 use Rattle.model.specs.Rules.{mergeBy, diffBy}
 use Rattle.model.specs.Delta.{Change}
 use Rattle.model.specs.Heap.{version, supply}
 use Rattle.model.specs.Block.{heap, SoundBlock}
-use Rattle.model.specs.Frame.{Frame, parse}
+use Rattle.model.specs.Frame.{parse}
 use Rattle.model.specs.Calls.{Answer, Versions, Edit, Edits, inserting, removing, copying, uniting, lessening}
-use Rattle.model.specs.Link.{Step, PutsZero, Receive}
+use Rattle.model.specs.Batch.{Record, NoZero, setAll, Batched}
+use Rattle.model.specs.Link.{Step, Receive}
 use Rattle.model.specs.Replica.{NoZeroSent}
 use Rattle.model.proofs.Sorts.{ordered-sorted}
 use Rattle.model.proofs.Maps.{updated, updated-at, updated-other, put-is, without-is}
@@ -24,6 +25,7 @@ use Rattle.model.proofs.Versions.{version-ordered}
 use Rattle.model.proofs.Replicas.{edited, frame-entries}
 use Rattle.model.proofs.Receiving.{Outcome, away, again, new, receive-outcome}
 use Rattle.model.proofs.Meanings.{edit-done, refused-edit-changes-nothing, insert-puts, remove-takes-out, copy-copies, clear-empties, union-merges, difference-lessens}
+use Rattle.model.proofs.Batches.{batch-done, refused-batch-changes-nothing, batch-leaves-others, batch-sets}
 use Rattle.model.proofs.Refusals.{Called, inserts, removes, copies, clears, unites, lessens, done-number}
 
 -- no value of a map, and of a version, is 0
@@ -50,6 +52,21 @@ module _ (es : List Entry) (sorted : Sorted es) (Z : Zeroless es) (key : ℕ) wh
 
   without-zeroless : Zeroless (without es key)
   without-zeroless = set-zeroless none (without es key) (λ e. let u : _≡_ {A = ℕ} 0 1 = cc e in omega arith) (without-is es key sorted)
+
+-- an edit by its kind that puts no zero
+by-kind : (kind k v : ℕ) (es : List Entry) → Sorted es → Zeroless es → (kind ≡ 1 → v ≢ 0) → Sorted (setBy kind k v es) × Zeroless (setBy kind k v es)
+unfolding setBy
+by-kind zero k v es s Z n = (s, Z)
+by-kind (suc zero) k v es s Z n = (put-is es k v s .sorted, put-zeroless es s Z k v (n refl))
+by-kind (suc (suc m)) k v es s Z n = (without-is es k s .sorted, without-zeroless es s Z k)
+
+-- and many of them
+all-zeroless : (rs : List Record) (es : List Entry) → Sorted es → Zeroless es → NoZero rs → Zeroless (setAll rs es)
+unfolding setAll
+all-zeroless [] es s Z n = Z
+all-zeroless (r ∷ rs) es s Z n =
+    let one = by-kind (r .kind) (r .key) (r .value) es s Z (n 0 (omega arith)) in
+    all-zeroless rs _ (one .0) (one .1) (λ i lt. n (suc i) (omega arith))
 
 -- the merged value of two that are not 0
 merge-positive : (rule x y : ℕ) → x ≢ 0 → y ≢ 0 → mergeBy rule x y ≢ 0
@@ -120,29 +137,34 @@ no-zero-comes-in {b} {after} {a} {e} C E Z v lt = go (ℕ-discrete (a .number) 0
         at (yes d) = rw d (done-zeroless Z z C E)
         at (no d) = rw (edit-done e E z .edited .others v lt d) (Z v lt)
 
+-- any batch
+pub no-zero-batched : {b after : List ℕ} {n : ℕ} (dst src : ℕ) {legal : Type 0} (rs : List Record) → Batched b after dst src legal rs n → ZerolessBlock b → ZerolessBlock after
+unfolding Versions
+no-zero-batched {b} {after} {n} dst src rs B Z v lt = at (ℕ-discrete v dst) (ℕ-discrete n 0)
+  where
+    at : Dec (v ≡ dst) → Dec (n ≡ 0) → Zeroless (entries (version (heap after) v))
+    at (no d) t = rw (batch-leaves-others dst src rs B v lt d) (Z v lt)
+    at (yes d) (no p) = rw (refused-batch-changes-nothing dst src rs B p) (Z v lt)
+    at (yes d) (yes z) =
+        let D = batch-done dst src rs B z in
+        let src-known = D .versions .1 .0 in
+        rw (d, batch-sets dst src rs B z) (all-zeroless rs _ (ordered-sorted _ (version-ordered (D .sound .sound) src src-known)) (Z src src-known) (D .no-zero))
+
 -- any line
 pub no-zero-received : (s : Step) (v : ℕ) (line : List ℕ) → SoundBlock (s .block) → v < 16 → Receive s v line → ZerolessBlock (s .block) → ZerolessBlock (s .block′)
 unfolding edited
 no-zero-received s v line B lt R Z w l = go (receive-outcome s v line R)
   where
-    edited-zeroless : (f : Frame) → ¬ PutsZero f → Zeroless (edited f (entries (version (heap (s .block)) v)))
-    edited-zeroless f n = kind (f .kind) refl
-      where
-        o : Sorted (entries (version (heap (s .block)) v))
-        o = ordered-sorted _ (version-ordered (B .sound) v lt)
-
-        kind : (k : ℕ) → f .kind ≡ k → Zeroless (edited f (entries (version (heap (s .block)) v)))
-        kind zero e = rw (e, edited) (Z v lt)
-        kind (suc zero) e = rw (e, edited) (put-zeroless _ o (Z v lt) (f .key) (f .value) (λ q. n (e, q)))
-        kind (suc (suc k)) e = rw (e, edited) (without-zeroless _ o (Z v lt) (f .key))
-
     go : Outcome s v (parse line) → Zeroless (entries (version (heap (s .block′)) w))
     go (away n b x) = rw b (Z w l)
     go (again f e W h a b x) = rw b (Z w l)
     go (new f e W h a r E x) = at (ℕ-discrete w v)
       where
+        o : Sorted (entries (version (heap (s .block)) v))
+        o = ordered-sorted _ (version-ordered (B .sound) v lt)
+
         at : Dec (w ≡ v) → Zeroless (entries (version (heap (s .block′)) w))
-        at (yes d) = rw (d, E .here, frame-entries f (version (heap (s .block)) v) (supply (heap (s .block))) (version-ordered (B .sound) v lt)) (edited-zeroless f (W .worth))
+        at (yes d) = rw (d, E .here, frame-entries f (version (heap (s .block)) v) (supply (heap (s .block))) (version-ordered (B .sound) v lt)) (by-kind (f .kind) (f .key) (f .value) _ o (Z v lt) (λ e q. W .worth (e, q)) .1)
         at (no d) = rw (E .others w l d) (Z w l)
 
 -- such a block sends no zero

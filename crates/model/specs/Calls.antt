@@ -69,6 +69,10 @@ pub record Carried (b after : List ℕ) (dst : ℕ) (rule : Make Tree) : Type 0 
   pub enough : short (rule (supply (heap b)) .1) ≡ false
   pub edited : Edited b after dst (rule (supply (heap b)) .0)
 
+-- an edit from its first make to its end: NO_ROOM and nothing changed, or version dst becomes the rule's tree
+abbrev pub Ending : (b after : List ℕ) (dst : ℕ) → Make Tree → ℕ → Type 0
+Ending b after dst rule n = Check (short (rule (supply (heap b)) .1) ≡ false) ((n ≡ NO_ROOM) × (after ≡ b)) ((n ≡ 0) × Edited b after dst (rule (supply (heap b)) .0))
+
 -- a call that only reads: block, versions, then the answer
 abbrev pub Reads : List ℕ → List ℕ → Answer → Answer → Type 0
 Reads b versions answer a =

@@ -12,6 +12,7 @@ pub mod Frame
 pub mod Inbox
 pub mod Moves
 pub mod Calls
+pub mod Batch
 pub mod Lists
 pub mod Link
 pub mod Replica

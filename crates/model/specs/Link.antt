@@ -1,13 +1,13 @@
 -- What the calls of the link answer: parse, begin, receive and the missing question.
 use mathlib.Core.Path.{_≡_}
 use mathlib.Core.Logic.{_⊎_}
-use Prim.Native.Nat.{ℕ, zero, suc, _<_}
+use Prim.Native.Nat.{ℕ, _<_}
 use mathlib.Core.Bool.{Bool, true, false}
 use mathlib.Core.List.{List}
 use lib.ListN.{length}
 use Rattle.model.specs.Tree.{Tree}
-use Rattle.model.specs.Supply.{Make, done, short}
-use Rattle.model.specs.Rules.{insert, remove}
+use Rattle.model.specs.Supply.{Make, short}
+use Rattle.model.specs.Rules.{editBy}
 use Rattle.model.specs.Heap.{version, supply}
 use Rattle.model.specs.Block.{heap, Shaped, SoundBlock}
 use Rattle.model.specs.Frame.{Frame, Reading, good, fault, read}
@@ -42,10 +42,7 @@ pub record Heard : Type 0 where
 
 -- the edit of a frame
 unfoldable pub frameRule : Frame → Tree → Make Tree
-frameRule f t = elim (f .kind) [
-  | zero ↦ done t
-  | suc k ↦ elim k [ zero ↦ insert t (f .key) (f .value) | suc j ↦ remove t (f .key) ]
-]
+frameRule f t = editBy (f .kind) (f .key) (f .value) t
 
 -- the block and the inbox before and after a line, and the answer
 pub record Step : Type 0 where

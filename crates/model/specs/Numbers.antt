@@ -56,3 +56,7 @@ ZERO = 13
 -- a sum of union rule 4 is above 4,294,967,295
 abbrev pub SUM : ℕ
 SUM = 14
+
+-- more than 512 records, a record of an unknown kind, or words that are no whole records
+abbrev pub EDIT : ℕ
+EDIT = 16

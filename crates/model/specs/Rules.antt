@@ -129,6 +129,12 @@ removePresent (node i h w l r) k = do
 unfoldable pub remove : Tree → ℕ → Make Tree
 remove t k = elim (lookup t k) [ none ↦ done t | some w ↦ removePresent t k ]
 
+-- an edit by its kind, as frames and batches name it: 1 puts, 2 removes, 0 changes nothing
+unfoldable pub editBy : (kind k v : ℕ) → Tree → Make Tree
+editBy zero k v t = done t
+editBy (suc zero) k v t = insert t k v
+editBy (suc (suc n)) k v t = remove t k
+
 -- one side's size, not weight, is above 3 times the other's
 abbrev pub larger : Tree → Tree → Bool
 larger t u = ltb (3 * size u) (size t)

@@ -1,5 +1,6 @@
 // What the switch's host calls: one call each, and nothing else. Each answers the number and sets its fields through the pointers.
 ghost use Rattle.model.specs.Calls.{Fresh, Lookup, Size, Held, HeldBetween, Edits, inserting, removing, copying, clearing, uniting, lessening, Checked};
+ghost use Rattle.model.specs.Batch.{BatchWords};
 ghost use Rattle.model.specs.Frame.{read};
 ghost use Rattle.model.specs.Lists.{Lists, listed, framed};
 ghost use Rattle.model.specs.Link.{Parse, Begin, Missing, Receive};
@@ -114,6 +115,14 @@ pub extern "C" fn ksk_copy(block: &mut [u32], dest: u32, source: u32) -> u32
 {
     let a = table::copy(block, dest, source);
     a.number
+}
+
+// Version dest becomes version source after the edits, three words a record.
+#[no_mangle]
+pub extern "C" fn ksk_batch(block: &mut [u32], dest: u32, source: u32, edits: &[u32]) -> u32
+    ensures { λ r. ⌜ BatchWords (now (block .entry)) (now (block .exit)) dest source (now (edits .entry)) r ⌝ }
+{
+    batch::batch_words(block, dest, source, edits)
 }
 
 // A version becomes empty.

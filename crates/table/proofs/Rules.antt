@@ -1,5 +1,4 @@
--- Each rule's outcome from the roots that the code holds: insert and remove are told by the lookup whether the key is there,
--- and the fuel of union is enough.
+-- Each rule's outcome from the roots that the code holds: they are the versions', and the fuel of union is enough.
 use mathlib.Core.Path.{_≡_, sym, subst}
 use Prim.Native.Nat.{ℕ, suc, _+_, _<_}
 use mathlib.Core.Bool.{Bool, true, false, _&&_, not, true≢false}
@@ -7,58 +6,32 @@ use mathlib.Core.List.{List, [], _∷_}
 use lib.Dec.{eqb, leb}
 use borrow.Author.Tests.{eq-eqb}
 use native.Mathlib.Omega.{arith}
-use Rattle.model.specs.Tree.{Tree, leaf, size, entries, lookup, Ordered}
+use Rattle.model.specs.Tree.{leaf, size, entries, lookup, Ordered}
 use Rattle.model.specs.Supply.{done}
-use Rattle.model.specs.Rules.{insertBy, insert, removePresent, remove, union, difference, mergeBy, fits, diffBy}
-use Rattle.model.specs.Heap.{Heap, Named, load, tree, version, supply}
+use Rattle.model.specs.Rules.{insertBy, insert, remove, union, difference, mergeBy, fits, diffBy}
+use Rattle.model.specs.Heap.{Heap, load, tree, version, supply}
 use Rattle.model.specs.Block.{heap, SoundBlock}
-use Rattle.model.specs.Moves.{Running, held}
+use Rattle.model.specs.Moves.{held}
 use Rattle.model.proofs.Counts.{hit-no}
 use Rattle.model.proofs.Pieces.{AllNamed}
 use Rattle.model.proofs.Orders.{difference-ordered}
 use Rattle.model.proofs.Loads.{tree-size}
 use Rattle.model.proofs.Versions.{sound-running, version-ordered, cancelling-changes-nothing}
 use Rattle.block.specs.declared.Found.{Found}
-use Rattle.block.specs.declared.Found.the-variants.{Value, Absent}
 use Rattle.block.specs.declared.Made.{Made}
 use Rattle.block.specs.declared.Made.the-variants.{At}
-use Rattle.block.specs.Outcome.{Outcome, answer}
+use Rattle.block.specs.Outcome.{Outcome, answer, isAbsent}
 use Rattle.block.proofs.Outcomes.{out-done}
 use Rattle.tree.specs.Remade.{remade}
+use Rattle.tree.proofs.Told.{inserted-told}
 use Rattle.sets.specs.United.{United}
 use Rattle.sets.specs.Words.{wordBy}
 use Rattle.sets.proofs.ByRule.{union-exact}
-use Rattle.table.specs.Answers.{isAbsent}
 use Rattle.table.proofs.Settling.{Source, source-named}
-
--- a new key uses balanced makes, an equal key plain ones
-insert-told : (f : Found) (t : Tree) (k v : ℕ) → answer f ≡ lookup t k → insertBy (remade (isAbsent f)) t k v ≡ insert t k v
-unfolding insert
-insert-told (Value w) t k v e = rw (← e, insert)
-insert-told Absent t k v e = rw (← e, insert)
-
--- an absent key makes nothing
-remove-absent : (f : Found) (t : Tree) (k : ℕ) → answer f ≡ lookup t k → isAbsent f ≡ true → done t ≡ remove t k
-unfolding remove
-remove-absent (Value w) t k e a = absurd (true≢false (sym a))
-remove-absent Absent t k e a = rw (← e, remove)
-
-remove-present : (f : Found) (t : Tree) (k : ℕ) → answer f ≡ lookup t k → isAbsent f ≡ false → removePresent t k ≡ remove t k
-unfolding remove
-remove-present (Value w) t k e a = rw (← e, remove)
-remove-present Absent t k e a = absurd (true≢false a)
-
-pub removed-absent : {b : List ℕ} {n : ℕ} (f : Found) (key : ℕ) → Running b → Named (heap b) n → answer f ≡ lookup (tree (heap b) n) key → isAbsent f ≡ true → Outcome b b (n ∷ []) (At n) (remove (tree (heap b) n) key)
-unfolding held
-removed-absent {b} {n} f key R o e a = subst (Outcome b b (n ∷ []) (At n)) (remove-absent f (tree (heap b) n) key e a) (out-done b n (λ x i. omega arith) R o)
-
-pub removed-present : {b c ps : List ℕ} {q : Made} (f : Found) (n key : ℕ) → answer f ≡ lookup (tree (heap b) n) key → isAbsent f ≡ false → Outcome b c ps q (removePresent (tree (heap b) n) key) → Outcome b c ps q (remove (tree (heap b) n) key)
-removed-present {b} {c} {ps} {q} f n key e a O = subst (Outcome b c ps q) (remove-present f (tree (heap b) n) key e a) O
 
 module _ {b : List ℕ} {v r : ℕ} (S : Source b v r) where
   pub inserted : {c ps : List ℕ} {q : Made} (f : Found) (fresh : Bool) (key value : ℕ) → fresh ≡ isAbsent f → answer f ≡ lookup (tree (heap b) r) key → Outcome b c ps q (insertBy (remade fresh) (tree (heap b) r) key value) → Outcome b c ps q (insert (version (heap b) v) key value)
-  inserted {c} {ps} {q} f fresh key value i e O =
-      rw (← S .is) (subst (Outcome b c ps q) (insert-told f (tree (heap b) r) key value e) (subst (λ x. Outcome b c ps q (insertBy (remade x) (tree (heap b) r) key value)) i O))
+  inserted f fresh key value i e O = rw (← S .is) (inserted-told f fresh r key value i e O)
 
   pub removed : {c ps : List ℕ} {q : Made} (key : ℕ) → Outcome b c ps q (remove (tree (heap b) r) key) → Outcome b c ps q (remove (version (heap b) v) key)
   removed key O = rw (← S .is) O

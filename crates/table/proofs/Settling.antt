@@ -1,5 +1,5 @@
 -- An edit from its checks to its end, whatever its rule: what the rule made becomes the destination, or every word is as at entry.
-use mathlib.Core.Path.{_≡_, refl, ap, sym, subst, _∙_}
+use mathlib.Core.Path.{_≡_, refl, ap, sym, _∙_}
 use mathlib.Core.Logic.{_≢_}
 use Prim.Native.Nat.{ℕ, zero, suc, _+_, _≤_, _<_}
 use mathlib.Core.Bool.{Bool, true, false, not, true≢false}
@@ -10,8 +10,8 @@ use Rattle.model.specs.Tree.{size, entries, lookup, Ordered}
 use Rattle.model.specs.Sums.{minutes, those, within, sumBelow}
 use Rattle.model.specs.Heap.{Named, Linked, sizeAt, sumAt, tree, version, supply}
 use Rattle.model.specs.Block.{heap, Words, Shaped, SoundBlock}
-use Rattle.model.specs.Moves.{Running, Holding, FullBelow, HeldBelow, Swept, Finished}
-use Rattle.model.specs.Numbers.{RULE, ZERO, SUM, NO_ROOM}
+use Rattle.model.specs.Moves.{Running, Holding, FullBelow, HeldBelow}
+use Rattle.model.specs.Numbers.{RULE, ZERO, SUM}
 use Rattle.model.specs.Calls.{fails, passes, Answer, refusal, giving, Versions, Edit, Edits}
 use Rattle.model.proofs.Loads.{tree-size, tree-sum}
 use Rattle.model.proofs.Sums.{total-minutes}
@@ -20,9 +20,9 @@ use Rattle.model.proofs.Pieces.{AllNamed}
 use Rattle.model.proofs.Versions.{version-named, version-small, version-ordered}
 use Rattle.block.specs.declared.Made.{Made}
 use Rattle.block.specs.declared.Made.the-variants.{At, Full}
-use Rattle.block.specs.Outcome.{Stands, Outcome}
+use Rattle.block.specs.Outcome.{Stands, Outcome, Settled}
 use Rattle.block.proofs.Edits.{start, held, carried, refused}
-use Rattle.table.specs.Answers.{ended, Settled}
+use Rattle.table.specs.Answers.{ended}
 
 -- a version that a call reads, and its root
 pub record Source (b : List ℕ) (v r : ℕ) : Type 0 where
@@ -82,13 +82,7 @@ module _ {b : List ℕ} {v w l r : ℕ} (S : Source b v l) (T : Source b w r) wh
   pub pair-asks : Holding b (l ∷ r ∷ []) × Named (heap b) l × Named (heap b) r × (sizeAt (heap b) l + sizeAt (heap b) r < 1048576)
   pair-asks = (start (S .sound) (l ∷ r ∷ []) pair-pieces, source-named S, source-named T, omega (arith, source-small S, source-small T))
 
--- the two ends of a call
-pub settled-at : {b e : List ℕ} {dst n : ℕ} {q : Made} → q ≡ At n → Finished b e dst n → Settled b e dst q 0
-settled-at {b} {e} {dst} p F = subst (λ q. Settled b e dst q 0) (sym p) (refl, F)
-
-pub settled-full : {b e : List ℕ} {q : Made} (dst : ℕ) → q ≡ Full → Swept b e → Settled b e dst q NO_ROOM
-settled-full {b} {e} dst p W = subst (λ q. Settled b e dst q NO_ROOM) (sym p) (refl, W)
-
+-- what an edit answers
 pub ended-refused : (n : ℕ) (a : Answer) → n ≢ 0 → refusal n ≡ ended n a
 ended-refused zero a ne = absurd (ne refl)
 ended-refused (suc n) a ne = refl

@@ -5,65 +5,21 @@ use crate::answers::plain;
 use crate::checks::admit;
 use crate::checks::difference_rule;
 use crate::checks::union_rule;
-use block::Found;
 use block::Made;
-use block::ends::finish;
-use block::ends::sweep;
+use block::ends::settle;
+use block::is_absent;
 use block::makes_from;
 use block::root;
 use tree::find;
-ghost use mathlib.Core.Path.{_≡_};
-ghost use Prim.Native.Nat.{_≤_, _<_};
-ghost use Rattle.model.specs.Tree.{lookup};
-ghost use Rattle.model.specs.Rules.{remove};
-ghost use Rattle.model.specs.Heap.{Named, sizeAt, tree};
-ghost use Rattle.model.specs.Block.{heap};
-ghost use mathlib.Core.List.{[], _∷_};
-ghost use Rattle.model.specs.Moves.{Running, Holding, HeldBelow};
+use tree::without;
 ghost use Rattle.model.specs.Calls.{Fresh, Edits, inserting, removing, copying, clearing, uniting, lessening};
-ghost use Rattle.block.specs.Outcome.{Outcome, Stands, answer};
-ghost use Rattle.table.specs.Answers.{answerOf, isAbsent, Settled};
+ghost use Rattle.table.specs.Answers.{answerOf};
 
 const RULE: u32 = 4;
-
-const NO_ROOM: u32 = 5;
 
 const ZERO: u32 = 13;
 
 const SUM: u32 = 14;
-
-// The end of an edit: the destination takes what was made, or what was made is given up again. Receive ends its edit by it too; it is no call of its own.
-pub fn settle(b: &mut [u32], dst: u32, from: u32, made: Made) -> u32
-    requires { ⌜ Running (now b) × (dst < 16) × Stands (heap (now b)) made × (1 ≤ from) × HeldBelow (heap (now b)) from ⌝ }
-    ensures { λ r. ⌜ Settled (now (b .entry)) (now (b .exit)) dst made r ⌝ }
-{
-    let Made::At(n) = made else {
-        sweep(b, from);
-        return NO_ROOM;
-    };
-    finish(b, dst, n, from);
-    0
-}
-
-pub fn is_absent(f: Found) -> bool
-    ensures { λ r. ⌜ r ≡ isAbsent f ⌝ }
-{
-    match f {
-        Found::Value(_) => false,
-        Found::Absent => true,
-    }
-}
-
-// The tree below n without a key whose lookup gave f. Receive removes by it too; it is no call of its own.
-pub fn without(b: &mut [u32], n: u32, key: u32, f: Found) -> Made
-    requires { ⌜ Holding (now b) (n ∷ []) × Named (heap (now b)) n × (sizeAt (heap (now b)) n < 1048575) × (answer f ≡ lookup (tree (heap (now b)) n) key) ⌝ }
-    ensures { λ r. ⌜ Outcome (now (b .entry)) (now (b .exit)) (n ∷ []) r (remove (tree (heap (now (b .entry))) n) key) ⌝ }
-{
-    if is_absent(f) {
-        return Made::At(n);
-    }
-    tree::remove(b, n, key)
-}
 
 // N = n and sixteen empty versions.
 pub fn fresh(b: &mut [u32], n: u32) -> Answer

@@ -4,6 +4,7 @@ pub mod held;
 use block::Found;
 use block::Made;
 use block::apart::take_apart;
+use block::is_absent;
 use block::make;
 use block::read;
 use block::size_at;
@@ -14,7 +15,7 @@ ghost use Rattle.model.specs.Heap.{Named, Occupied, Linked, sizeAt, tree};
 ghost use Rattle.model.specs.Block.{heap, Shaped};
 ghost use mathlib.Core.List.{[], _∷_};
 ghost use Rattle.model.specs.Moves.{Holding};
-ghost use Rattle.model.specs.Rules.{twice, rotateLeft, rotateRight, balanced, insertBy, withoutKey, removePresent};
+ghost use Rattle.model.specs.Rules.{twice, rotateLeft, rotateRight, balanced, insertBy, withoutKey, removePresent, remove, editBy};
 ghost use Rattle.block.specs.Outcome.{Outcome, answer};
 ghost use Rattle.tree.specs.Remade.{remade};
 ghost use Rattle.tree.specs.Removal.{Removal, minimum};
@@ -211,6 +212,32 @@ pub fn remove(b: &mut [u32], n: u32, key: u32) -> Made
         return Made::Full;
     };
     balanced(b, node.key, node.value, node.left, right)
+}
+
+// The tree below n without a key whose lookup gave f: an absent one makes nothing.
+pub fn without(b: &mut [u32], n: u32, key: u32, f: Found) -> Made
+    requires { ⌜ Holding (now b) (n ∷ []) × Named (heap (now b)) n × (sizeAt (heap (now b)) n < 1048575) × (answer f ≡ lookup (tree (heap (now b)) n) key) ⌝ }
+    ensures { λ r. ⌜ Outcome (now (b .entry)) (now (b .exit)) (n ∷ []) r (remove (tree (heap (now (b .entry))) n) key) ⌝ }
+{
+    if is_absent(f) {
+        return Made::At(n);
+    }
+    remove(b, n, key)
+}
+
+// An edit by its kind of the tree below n, as frames and batches name it: 1 puts, 2 removes, 0 changes nothing.
+pub fn edit(b: &mut [u32], n: u32, kind: u32, key: u32, value: u32) -> Made
+    requires { ⌜ Holding (now b) (n ∷ []) × Named (heap (now b)) n × (sizeAt (heap (now b)) n < 1048575) ⌝ }
+    ensures { λ r. ⌜ Outcome (now (b .entry)) (now (b .exit)) (n ∷ []) r (editBy kind key value (tree (heap (now (b .entry))) n)) ⌝ }
+{
+    if kind == 0 {
+        return Made::At(n);
+    }
+    let found = find(b, n, key);
+    if kind == 1 {
+        return insert(b, is_absent(found), n, key, value);
+    }
+    without(b, n, key, found)
 }
 
 // The value under a key in the tree below `root`.

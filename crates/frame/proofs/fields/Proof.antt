@@ -10,6 +10,10 @@ use Rattle.frame.proofs.Parsing.{says, field-is, field-not, no-batch, n
 use Rattle.frame.proofs.fields.Statement.{statement}
 use Rattle.frame.proofs.fields.Tie as tie
 
+-- nothing stands before the first field
+read-hex-requires : tie.Need-read-hex-requires
+read-hex-requires c κs = search needs
+
 -- from the place where a field is known to the one before
 abbrev entry : tie.After-n → tie.Start
 entry c = c .before .before .before .before
@@ -62,9 +66,6 @@ kind-good c = field-good _ 16 2 (count-good (to-count c)) (omega (arith, (entry 
 
 key-good : (c : tie.After-n5) → 26 ≤ firstBad ((entry (to-batch (to-index (to-count (to-kind c))))) .args .line .now)
 key-good c = field-good _ 18 8 (kind-good (to-kind c)) (omega (arith, (entry (to-batch (to-index (to-count (to-kind c))))) .pre)) (sym (key-is c))
-
-read-hex-requires : tie.Need-read-hex-requires
-read-hex-requires c κs = search needs
 
 enum-known-n : tie.Need-enum-known-n
 enum-known-n c = search needs

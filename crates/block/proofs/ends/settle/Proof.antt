@@ -1,11 +1,11 @@
 -- One branch is the end of a call that was carried out, the other the sweep that undoes it.
 use borrow.Author.Needs.{needs}
 use Rattle.model.specs.Block.{heap}
 use Rattle.block.specs.Outcome.{Stands}
 use mathlib.Core.Path.{subst}
-use Rattle.table.proofs.Settling.{settled-at, settled-full}
-use Rattle.table.proofs.edits.settle.Statement.{statement}
-use Rattle.table.proofs.edits.settle.Tie as tie
+use Rattle.block.proofs.Edits.{settled-at, settled-full}
+use Rattle.block.proofs.ends.settle.Statement.{statement}
+use Rattle.block.proofs.ends.settle.Tie as tie
 
 enum-known-made : tie.Need-enum-known-made
 enum-known-made c = search needs
@@ -20,7 +20,7 @@ same-length : tie.Need-same-length
 same-length c = search needs
 
 returns : tie.Need-returns
-returns c = settled-full (c .before .before .before .before .before .before .before .args .dst) (c .before .before .before .before .enum-told .given .1) (c .before .before .sweep .ensures)
+returns c = settled-full (c .before .before .before .before .before .before .before .args .v) (c .before .before .before .before .enum-told .given .1) (c .before .before .sweep .ensures)
 
 finish-requires : tie.Need-finish-requires
 finish-requires c κs = let st = c .before .before .before .before .before in (st .pre .0, st .pre .1, subst (Stands (heap (st .args .b .now))) (c .before .before .made .given .1) (st .pre .2), st .pre .3, st .pre .4)

@@ -1,9 +1,9 @@
 -- The lookup says whether the key is there: an absent one makes nothing.
 use borrow.Author.Needs.{needs}
 use mathlib.Core.Path.{_∙_, sym}
-use Rattle.table.proofs.Rules.{removed-absent, removed-present}
-use Rattle.table.proofs.edits.without.Statement.{statement}
-use Rattle.table.proofs.edits.without.Tie as tie
+use Rattle.tree.proofs.Told.{removed-absent, removed-present}
+use Rattle.tree.proofs.without.Statement.{statement}
+use Rattle.tree.proofs.without.Tie as tie
 
 is-absent-requires : tie.Need-is-absent-requires
 is-absent-requires c κs = search needs
