@@ -1,5 +1,7 @@
 //! The calls that are lent a block, and what comes back.
 
+use crate::batch::records;
+
 #[derive(Clone, Debug)]
 pub enum Call {
     Lookup {
@@ -31,6 +33,12 @@ pub enum Call {
     Copy {
         dest: u32,
         source: u32,
+    },
+    /// `edits` are the words of the records.
+    Batch {
+        dest: u32,
+        source: u32,
+        edits: Vec<u32>,
     },
     Clear {
         version: u32,
@@ -103,17 +111,29 @@ impl Call {
             | Call::HeldBetween { version, .. }
             | Call::Clear { version }
             | Call::Receive { version, .. } => vec![version],
-            Call::Insert { dest, source, .. } | Call::Remove { dest, source, .. } | Call::Copy { dest, source } => {
-                vec![dest, source]
-            }
+            Call::Insert { dest, source, .. }
+            | Call::Remove { dest, source, .. }
+            | Call::Copy { dest, source }
+            | Call::Batch { dest, source, .. } => vec![dest, source],
             Call::Union { dest, left, right, .. } | Call::Difference { dest, left, right, .. } => vec![dest, left, right],
             Call::List { left, right, .. } => vec![left, right],
             Call::Frames { from, to, .. } => vec![from, to],
         }
     }
 
+    pub fn edits_known(&self) -> bool {
+        match self {
+            Call::Batch { edits, .. } => records(edits).is_some(),
+            _ => true,
+        }
+    }
+
     pub fn puts_zero(&self) -> bool {
-        matches!(self, Call::Insert { value: 0, .. })
+        match self {
+            Call::Insert { value, .. } => *value == 0,
+            Call::Batch { edits, .. } => edits.chunks_exact(3).any(|record| record[0] == 1 && record[2] == 0),
+            _ => false,
+        }
     }
 
     pub fn rule_known(&self) -> bool {

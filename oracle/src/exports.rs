@@ -24,6 +24,7 @@ extern "C" {
     ) -> u32;
     pub fn ksk_remove(block: *mut u32, words: usize, dest: u32, source: u32, key: u32, had: *mut u32, old: *mut u32) -> u32;
     pub fn ksk_copy(block: *mut u32, words: usize, dest: u32, source: u32) -> u32;
+    fn ksk_batch(block: *mut u32, words: usize, dest: u32, source: u32, edits: *const u32, edit_words: usize) -> u32;
     pub fn ksk_clear(block: *mut u32, words: usize, version: u32) -> u32;
     pub fn ksk_union(block: *mut u32, words: usize, dest: u32, left: u32, right: u32, rule: u32) -> u32;
     pub fn ksk_difference(block: *mut u32, words: usize, dest: u32, left: u32, right: u32, rule: u32, cancel: u32) -> u32;
@@ -85,6 +86,11 @@ pub fn begin(inbox: &mut [u32], batch: u32) -> u32 {
     unsafe { ksk_begin(inbox.as_mut_ptr(), inbox.len(), batch) }
 }
 
+/// The records are only read; they are given to change, so that a change would be seen.
+pub fn batch(block: &mut [u32], dest: u32, source: u32, edits: &mut [u32]) -> u32 {
+    unsafe { ksk_batch(block.as_mut_ptr(), block.len(), dest, source, edits.as_mut_ptr(), edits.len()) }
+}
+
 /// What fields hold before a call: a refusal must set them to zero, not leave them.
 const STALE: u32 = 0xdead_beef;
 
@@ -104,10 +110,10 @@ pub fn parse(line: &[u8]) -> (u32, u32, Frame) {
 }
 
 /// How often each number was answered.
-pub static ANSWERS: [AtomicU64; 15] = [const { AtomicU64::new(0) }; 15];
+pub static ANSWERS: [AtomicU64; 17] = [const { AtomicU64::new(0) }; 17];
 
 /// The numbers that a call on a block can answer: a comparison that never meets one compares less than it says.
-pub const NUMBERS: [usize; 15] = [0, 1, 2, 3, 4, 5, 6, 7, 8, 9, 10, 11, 12, 13, 14];
+pub const NUMBERS: [usize; 16] = [0, 1, 2, 3, 4, 5, 6, 7, 8, 9, 10, 11, 12, 13, 14, 16];
 
 /// Runs a call. Fields that an export does not have stay zero.
 pub fn run(block: &mut [u32], inbox: &mut [u32], call: &Call) -> Reply {
@@ -126,6 +132,7 @@ pub fn run_into(block: &mut [u32], inbox: &mut [u32], call: &Call, reply: &mut R
     reply.number = unsafe {
         match *call {
             Call::Copy { dest, source } => ksk_copy(b, words, dest, source),
+            Call::Batch { dest, source, ref edits } => ksk_batch(b, words, dest, source, edits.as_ptr(), edits.len()),
             Call::Clear { version } => ksk_clear(b, words, version),
             Call::Union { dest, left, right, rule } => ksk_union(b, words, dest, left, right, rule),
             Call::Difference { dest, left, right, rule, cancel } => ksk_difference(b, words, dest, left, right, rule, cancel),

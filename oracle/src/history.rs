@@ -128,10 +128,29 @@ impl Mix {
         Call::Insert { dest: version, source: version, key: self.key(random), value: self.value(random) }
     }
 
+    /// Mostly few records; once in a while a length, a kind or a value that is refused.
+    pub fn batch(self, random: &mut Random, dest: u32, source: u32) -> Call {
+        let most = random.pick(&[9, 9, 9, 9, 9, 9, 9, 40]);
+        let count = random.below(most);
+        let record = |random: &mut Random| match random.below(5) {
+            0..=2 => [1, self.key(random), self.value(random).max(1)],
+            _ => [2, self.key(random), random.word()],
+        };
+        let mut edits: Vec<u32> = (0..count).flat_map(|_| record(random)).collect();
+        if random.once_in(self.illegal) {
+            match random.below(3) {
+                0 => edits.push(1),
+                1 => edits.extend([random.pick(&[0, 3, u32::MAX]), self.key(random), 1]),
+                _ => edits.extend([1, self.key(random), 0]),
+            }
+        }
+        Call::Batch { dest, source, edits }
+    }
+
     /// An edit. Inserts lead, so that trees grow until room is short.
     pub fn edit(self, random: &mut Random) -> Call {
         let dest = self.version(random);
-        match random.below(20) {
+        match random.below(22) {
             0..=7 => {
                 let source = if random.once_in(4) { self.version(random) } else { dest };
                 Call::Insert { dest, source, key: self.key(random), value: self.value(random) }
@@ -139,6 +158,10 @@ impl Mix {
             8..=11 => {
                 let source = if random.once_in(4) { self.version(random) } else { dest };
                 Call::Remove { dest, source, key: self.key(random) }
+            }
+            20 | 21 => {
+                let source = if random.once_in(4) { self.version(random) } else { dest };
+                self.batch(random, dest, source)
             }
             12 | 13 => Call::Copy { dest, source: self.version(random) },
             14 if random.once_in(3) => Call::Clear { version: dest },

@@ -1,5 +1,6 @@
 //! The original Rust, document 01 in plain Rust, and the exported calls, side by side.
 
+pub mod batch;
 pub mod block;
 pub mod call;
 pub mod exports;

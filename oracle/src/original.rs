@@ -23,6 +23,7 @@ pub fn edit(maps: &mut [Map], call: &Call) -> Option<u32> {
         Call::Insert { dest, source, key, value } => on_copy(maps, dest, source, |map| map.insert(key, value)),
         Call::Remove { dest, source, key } => on_copy(maps, dest, source, |map| map.remove(&key)),
         Call::Copy { dest, source } => on_copy(maps, dest, source, |_| None),
+        Call::Batch { dest, source, ref edits } => on_copy(maps, dest, source, |map| one_by_one(map, edits)),
         Call::Clear { version } => {
             maps[version as usize].clear();
             None
@@ -41,6 +42,17 @@ pub fn edit(maps: &mut [Map], call: &Call) -> Option<u32> {
         }
         _ => unreachable!("not an edit"),
     }
+}
+
+/// The edits of a batch, each by the original's own call; a batch has no old value to tell.
+fn one_by_one(map: &mut Map, edits: &[u32]) -> Option<u32> {
+    for edit in edits.chunks_exact(3) {
+        match edit[0] {
+            1 => map.insert(edit[1], edit[2]),
+            _ => map.remove(&edit[1]),
+        };
+    }
+    None
 }
 
 /// With one version as both the call edits in place, else it edits a clone.

@@ -1,5 +1,6 @@
 //! What document 01 says of each call: the reply, the trees and the inbox afterwards.
 
+use crate::batch::{self, records, EDIT};
 use crate::call::{Call, Reply};
 use crate::frame::{self, Fault, Frame, LINE};
 use crate::rules::{self, Supply, Tree};
@@ -48,12 +49,14 @@ pub fn answer(table: &mut Table, inbox: &mut [u32], call: &Call) -> Reply {
     }
 }
 
-/// What is looked at before anything else: versions, rules, zeros and sums.
-fn refused(table: &Table, call: &Call) -> Option<u32> {
+/// What is looked at before anything else: versions, rules, records, zeros and sums.
+pub fn refused(table: &Table, call: &Call) -> Option<u32> {
     if call.versions().iter().any(|&version| version > 15) {
         Some(VERSION)
     } else if !call.rule_known() {
         Some(RULE)
+    } else if !call.edits_known() {
+        Some(EDIT)
     } else if call.puts_zero() {
         Some(ZERO)
     } else {
@@ -94,7 +97,7 @@ fn run(table: &mut Table, inbox: &mut [u32], call: &Call, reply: &mut Reply) -> 
 }
 
 /// A union by sums in which one does not fit.
-pub fn exceeds(table: &Table, call: &Call) -> bool {
+fn exceeds(table: &Table, call: &Call) -> bool {
     let tree = |version: u32| &table.versions[version as usize];
     matches!(*call, Call::Union { left, right, rule: 4, .. } if !rules::sums_fit(tree(left), tree(right)))
 }
@@ -141,6 +144,10 @@ fn ruled(table: &Table, supply: &mut Supply, call: &Call) -> (u32, Tree, [u32; 2
             (dest, rules::remove(supply, tree(source), key), found(rules::lookup(tree(source), key)))
         }
         Call::Copy { dest, source } => (dest, tree(source).clone(), [0; 2]),
+        Call::Batch { dest, source, ref edits } => {
+            let edits = records(edits).expect("the records were checked");
+            (dest, batch::run(supply, tree(source), &edits), [0; 2])
+        }
         Call::Clear { version } => (version, None, [0; 2]),
         Call::Union { dest, left, right, rule } => (dest, rules::union(supply, tree(left), tree(right), rule), [0; 2]),
         Call::Difference { dest, left, right, rule, cancel } => {

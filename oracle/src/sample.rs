@@ -3,6 +3,7 @@
 //! A root of its own beside `lib.rs`: it has the original without the exported calls.
 #![allow(dead_code)]
 
+mod batch;
 mod block;
 mod call;
 mod frame;

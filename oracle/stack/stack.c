@@ -17,6 +17,7 @@ static _Alignas(64) uint64_t stack[STACK / 8];
 static uint32_t block[WORDS], built[WORDS], inbox[KSK_INBOX_WORDS], entries[ENTRIES];
 static uint64_t ledger[KSK_LEDGER_WORDS(256)];
 static uint8_t lines[LINES], line[KSK_LINE_BYTES];
+static uint32_t edits[9];
 
 /* What the call is given. */
 static struct { uint32_t dest, left, right, rule, cancel, key; } in;
@@ -31,6 +32,7 @@ static void held(void) { answer = ksk_held(block, WORDS, in.left, total); }
 static void held_between(void) { answer = ksk_held_between(block, WORDS, in.left, in.key, 2 * in.key, total); }
 static void insert(void) { answer = ksk_insert(block, WORDS, in.dest, in.left, in.key, 1, field, field + 1); }
 static void removing(void) { answer = ksk_remove(block, WORDS, in.dest, in.left, in.key, field, field + 1); }
+static void batch(void) { answer = ksk_batch(block, WORDS, in.dest, in.left, edits, 9); }
 static void copy(void) { answer = ksk_copy(block, WORDS, in.dest, in.left); }
 static void clear(void) { answer = ksk_clear(block, WORDS, in.dest); }
 static void unite(void) { answer = ksk_union(block, WORDS, in.dest, in.left, in.right, in.rule); }
@@ -64,6 +66,7 @@ static struct call {
     { "ksk_held_between", held_between, 0, 0, "" },
     { "ksk_insert", insert, 0, 0, "" },
     { "ksk_remove", removing, 0, 0, "" },
+    { "ksk_batch", batch, 0, 0, "" },
     { "ksk_copy", copy, 0, 0, "" },
     { "ksk_clear", clear, 0, 0, "" },
     { "ksk_union", unite, 0, 0, "" },
@@ -140,9 +143,20 @@ static void write_line(uint32_t kind, uint32_t key)
     memcpy(line, text, KSK_LINE_BYTES);
 }
 
+/* A batch that puts 1 under the key, removes the key, and puts it again. */
+static void write_edits(uint32_t key)
+{
+    for (uint32_t i = 0; i < 3; i++) {
+        edits[3 * i] = 1 + i % 2;
+        edits[3 * i + 1] = key;
+        edits[3 * i + 2] = 1;
+    }
+}
+
 static void measure_at_key(struct shape shape)
 {
-    static void (*const runs[])(void) = { lookup, held_between, insert, removing, ledger_reserve, ledger_settle, ledger_release };
+    static void (*const runs[])(void) = { lookup, held_between, insert, removing, batch, ledger_reserve, ledger_settle, ledger_release };
+    write_edits(in.key);
     for (size_t i = 0; i < sizeof runs / sizeof *runs; i++)
         measure(runs[i], shape);
     for (uint32_t kind = 1; kind <= 2; kind++) {

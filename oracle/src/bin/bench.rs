@@ -93,6 +93,18 @@ fn common(n: usize, count: u32, seed: u64, value: impl Fn(u32) -> u32) -> Table 
     table
 }
 
+/// A hundred edits over a version's keys in no order: new keys, known ones, and removes.
+fn hundred(count: u32, seed: u64) -> Call {
+    let edit = |i: u32| match (i % 4, 2 * i * (count / 100)) {
+        (0 | 1, key) => [1, key + 1, 1],
+        (2, key) => [1, key, 1],
+        (_, key) => [2, key, 0],
+    };
+    let mut edits: Vec<[u32; 3]> = (0..100).map(edit).collect();
+    Random::new(seed).shuffle(&mut edits);
+    Call::Batch { dest: 0, source: 0, edits: edits.concat() }
+}
+
 /// Every call once, on blocks that differ with the seed in where their keys stand.
 fn scenes(n: usize, seed: u64) -> Vec<Scene> {
     let scene = |name, table: &Table, call| {
@@ -118,6 +130,7 @@ fn scenes(n: usize, seed: u64) -> Vec<Scene> {
         scene("insert into 2,000", &many, insert),
         scene("remove from 100", &few, remove.clone()),
         scene("remove from 2,000", &many, remove),
+        scene("batch of 100 edits in 100", &few, hundred(100, seed)),
         scene("held in 2,000", &many, Call::Held { version: 0 }),
         scene("held between in 2,000", &many, between),
         scene("copy of 100", &few, copy.clone()),
@@ -132,8 +145,9 @@ fn scenes(n: usize, seed: u64) -> Vec<Scene> {
         scene("frames of 2,000 puts", &many, Call::Frames { from: 15, to: 0, batch: 7, start: 0, room: 70_000 }),
         scene("receive, 2,000 entries", &many, Call::Receive { version: 0, line }),
     ];
-    // A union makes a node or more for each entry that both have, so beside 2,000 entries there is room for few.
+    // A union makes a node or more for each entry that both have, so beside 2,000 entries there is room for few. A batch needs room for all its paths at once.
     if n == 4096 {
+        scenes.push(scene("batch of 100 edits in 2,000", &many, hundred(2000, seed)));
         scenes.push(scene("lookup in 4,096", &full(n), Call::Lookup { version: 0, key: 76 }));
         scenes.push(scene("held in 4,096", &full(n), Call::Held { version: 0 }));
         scenes.push(scene("held between in 4,096", &full(n), Call::HeldBetween { version: 0, first: 1000, last: 3000 }));

@@ -1,13 +1,13 @@
 //! Compares the exported calls with the original and with documents 01 and 02. Usage: compare [seed] [times]
 
 use oracle::exports::{ANSWERS, NUMBERS};
-use oracle::parts::{cases, damage, exhaustive, held, histories, ledger, limits, lines, link, room, sums, uneven, zeros, Compared, Effort};
+use oracle::parts::{batch, cases, damage, exhaustive, held, histories, ledger, limits, lines, link, room, sums, uneven, zeros, Compared, Effort};
 use std::process::ExitCode;
 use std::sync::atomic::{AtomicUsize, Ordering};
 use std::thread;
 use std::time::Instant;
 
-const PARTS: [(&str, fn(Effort) -> Compared); 18] = [
+const PARTS: [(&str, fn(Effort) -> Compared); 19] = [
     ("worked cases of document 01", cases::worked),
     ("fresh blocks at every N", limits::fresh),
     ("inboxes: begin and missing", limits::inboxes),
@@ -20,6 +20,7 @@ const PARTS: [(&str, fn(Effort) -> Compared); 18] = [
     ("exact room", room::exact),
     ("sums that fit and that do not", sums::around_the_limit),
     ("zero minutes", zeros::all),
+    ("batches of edits", batch::all),
     ("uneven trees: edits", uneven::edits),
     ("uneven trees: listings and depth", uneven::depths),
     ("damaged and cut blocks and inboxes", damage::refusals),
@@ -69,7 +70,7 @@ fn main() -> ExitCode {
     println!("seed {}, {} times", effort.seed, effort.times);
     let (passed, mut failed) = compared(effort);
     let answers = NUMBERS.map(|number| ANSWERS[number].load(Ordering::Relaxed));
-    println!("answers by number, 0 to 14: {answers:?}");
+    println!("answers by number, 0 to 14 and 16: {answers:?}");
     if answers.contains(&0) {
         failed += 1;
         println!("FAILED: a number was never answered");

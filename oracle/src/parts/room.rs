@@ -4,7 +4,7 @@ use super::uneven::{self, Lean};
 use super::{Compared, Effort};
 use crate::call::Call;
 use crate::history::{Keys, Mix, Trio};
-use crate::plain::{exceeds, makes, NO_ROOM};
+use crate::plain::{makes, refused, NO_ROOM};
 use crate::random::Random;
 use crate::rules::Supply;
 use crate::table::Table;
@@ -22,7 +22,7 @@ pub fn filled(random: &mut Random, table: &Table, left: usize) -> Table {
     table
 }
 
-fn both(random: &mut Random, table: &Table, call: &Call, made: usize) -> Compared {
+pub fn both(random: &mut Random, table: &Table, call: &Call, made: usize) -> Compared {
     let enough = Trio::of(filled(random, table, made)).step(call)?;
     let short = Trio::of(filled(random, table, made - 1)).step(call)?;
     if (enough.number, short.number) == (0, NO_ROOM) {
@@ -42,8 +42,7 @@ pub fn exact(effort: Effort) -> Compared {
         let mut compared = 0;
         for _ in 0..20 {
             let call = mix.edit(random);
-            let refused = !call.rule_known() || call.puts_zero() || exceeds(&trio.table, &call);
-            let made = if refused { 0 } else { makes(&trio.table, &call) };
+            let made = if refused(&trio.table, &call).is_some() { 0 } else { makes(&trio.table, &call) };
             if (1..=trio.table.free().len()).contains(&made) {
                 compared += both(random, &trio.table, &call, made)?;
             }
