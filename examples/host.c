@@ -102,9 +102,13 @@ static void refuse_zero(uint32_t call)
     printf("call %u refused: 0 minutes\n", call);
 }
 
-/* The standby is sent what has changed since it was last sent something. */
+/* The standby is sent what has changed since it was last sent something, if anything has. */
 static void bring_up_to_date(uint32_t batch)
 {
+    uint32_t same;
+    expect_done("ksk_same", ksk_same(primary, KSK_BLOCK_WORDS(N), SENT, OPEN_CALLS, &same));
+    if (same)
+        return;
     send(SENT, OPEN_CALLS, batch, OPEN_CALLS);
     expect_done("ksk_copy", ksk_copy(primary, KSK_BLOCK_WORDS(N), SENT, OPEN_CALLS));
 }

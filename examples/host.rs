@@ -94,8 +94,11 @@ fn accounts(primary: &mut Block, standby: &mut Block) -> Result<(), Box<dyn Erro
     Ok(())
 }
 
-/// The standby is sent what has changed since it was last sent something.
+/// The standby is sent what has changed since it was last sent something, if anything has.
 fn bring_up_to_date(primary: &mut Block, batch: u32, standby: &mut Block) -> Result<(), Refusal> {
+    if primary.same(SENT, OPEN_CALLS)? {
+        return Ok(());
+    }
     send(primary, SENT, OPEN_CALLS, batch, standby, OPEN_CALLS)?;
     primary.copy(SENT, OPEN_CALLS)
 }

@@ -20,6 +20,7 @@ extern "C" {
     fn ksk_difference(block: *mut u32, words: usize, dest: c_uint, left: c_uint, right: c_uint, rule: c_uint, cancel: c_uint) -> c_uint;
     fn ksk_list(block: *const u32, words: usize, left: c_uint, right: c_uint, start: c_uint, out: *mut u32, out_words: usize, written: *mut u32, total: *mut u32) -> c_uint;
     fn ksk_frames(block: *const u32, words: usize, from: c_uint, to: c_uint, batch: c_uint, start: c_uint, out: *mut u8, out_bytes: usize, written: *mut u32, total: *mut u32) -> c_uint;
+    fn ksk_same(block: *const u32, words: usize, from: c_uint, to: c_uint, same: *mut u32) -> c_uint;
     fn ksk_parse(line: *const u8, bytes: usize, batch: *mut u32, index: *mut u32, count: *mut u32, kind: *mut u32, key: *mut u32, value: *mut u32, place: *mut u32) -> c_uint;
     fn ksk_begin(inbox: *mut u32, words: usize, batch: c_uint) -> c_uint;
     fn ksk_receive(block: *mut u32, words: usize, inbox: *mut u32, inbox_words: usize, version: c_uint, line: *const u8, bytes: usize, again: *mut u32, missing: *mut u32, place: *mut u32) -> c_uint;
@@ -228,6 +229,13 @@ impl Block {
         let (mut written, mut total) = (0, 0);
         done(unsafe { ksk_frames(self.words.as_ptr(), self.words.len(), from, to, batch, 0, out.as_mut_ptr(), out.len(), &mut written, &mut total) })?;
         Ok(out[..written as usize].chunks(35).map(|line| line.try_into().expect("lines are 35 bytes")).collect())
+    }
+
+    /// Whether version `to` holds the same entries as version `from`; it stops at the first that differs.
+    pub fn same(&self, from: u32, to: u32) -> Result<bool, Refusal> {
+        let mut same = 0;
+        done(unsafe { ksk_same(self.words.as_ptr(), self.words.len(), from, to, &mut same) })?;
+        Ok(same == 1)
     }
 
     /// Hears one line in `version`.

@@ -109,6 +109,10 @@ uint32_t ksk_list(const uint32_t *block, size_t words, uint32_t left, uint32_t r
 /* The lines that carry version from to version to, under a batch number: lines from index start on while 35 bytes remain. written counts bytes. */
 uint32_t ksk_frames(const uint32_t *block, size_t words, uint32_t from, uint32_t to, uint32_t batch, uint32_t start, uint8_t *out, size_t out_bytes, uint32_t *written, uint32_t *total);
 
+/* Whether version to holds the same entries as version from: same is 1 or 0. Where ksk_frames gives its lines, 1 exactly when they are the single line "nothing".
+ * It stops at the first entry that differs, so KSK_TOO_DEEP is only for a walk that overflows before it. */
+uint32_t ksk_same(const uint32_t *block, size_t words, uint32_t from, uint32_t to, uint32_t *same);
+
 /* Reads one line: 35 bytes, the newline included. place is that of the first bad digit beside KSK_DIGIT, else 0. */
 uint32_t ksk_parse(const uint8_t *line, size_t bytes, uint32_t *batch, uint32_t *index, uint32_t *count, uint32_t *kind, uint32_t *key, uint32_t *value, uint32_t *place);
 

@@ -5,3 +5,4 @@ pub mod Holding
 pub mod Collecting
 pub mod Framing
 pub mod Sending
+pub mod Comparing

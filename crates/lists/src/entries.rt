@@ -40,7 +40,7 @@ pub fn list(b: &[u32], left: u32, right: u32, start: u32, out: &mut [u32]) -> Re
     let l = root(b, left);
     let r = root(b, right);
     let mut words = [0u32; 16384];
-    let Walked::Total(total) = walk::walk(b, l, r, Wanted::Rows, start, &mut words) else {
+    let Walked::Total(total) = walk::walk(b, l, r, Wanted::Rows, start, &mut words, false) else {
         return refusal(TOO_DEEP);
     };
     let k = shown(total, start, out.len() / 4);

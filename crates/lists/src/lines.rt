@@ -34,11 +34,12 @@ fn collect(b: &[u32], from: u32, to: u32, changes: &mut [u32]) -> Collected
 {
     let x = root(b, from);
     let y = root(b, to);
-    let Walked::Total(puts) = walk::walk(b, y, x, Wanted::Puts, 0, &mut *changes) else {
+    let Walked::Total(puts) = walk::walk(b, y, x, Wanted::Puts, 0, &mut *changes, false) else {
         return Collected::TooDeep;
     };
     let at = wide(2 * puts);
-    let Walked::Total(removes) = walk::walk(b, x, y, Wanted::Removes, 0, &mut changes[at..]) else {
+    let Walked::Total(removes) = walk::walk(b, x, y, Wanted::Removes, 0, &mut changes[at..], false)
+    else {
         return Collected::TooDeep;
     };
     Collected::Changes(puts, puts + removes)

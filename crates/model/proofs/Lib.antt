@@ -67,6 +67,7 @@ pub mod Possible
 pub mod Checks
 pub mod Once
 pub mod Meanings
+pub mod Drifts
 pub mod Refusals
 pub mod Zeros
 pub mod Batches

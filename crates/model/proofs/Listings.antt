@@ -8,7 +8,7 @@ use lib.Dec.{eqb, leb}
 use borrow.Author.Tests.{eqb-true}
 use native.Mathlib.Omega.{arith}
 use Rattle.model.specs.Tree.{Tree, leaf, node, Entry, size, idOf, entries, cut, find, AllAbove, Sorted, Ordered}
-use Rattle.model.specs.Listing.{Item, tree, entry, Sides, Row, Turn, over, on, yield, Walk, pend, opened, turn, tooDeep, walk, start, turns, listing, leftEntries, Listed}
+use Rattle.model.specs.Listing.{Item, tree, entry, Sides, Row, Turn, over, on, yield, Walk, pend, opened, turn, tooDeep, walk, start, turns, listing, leftEntries, _∈_, Listed}
 use Rattle.model.specs.Heap.{Heap, version, Linked, Sound}
 use Rattle.model.specs.Heap as H
 use Rattle.model.proofs.Versions.{version-ordered}
@@ -17,7 +17,8 @@ use Rattle.model.proofs.Compare.{cmp-lt, cmp-eq, cmp-gt}
 use Rattle.model.proofs.Finds.{above-none, past, found-first}
 use Rattle.model.proofs.Sorts.{allAbove-trans, ordered-sorted}
 use Rattle.model.proofs.Turns.{cost, costs, turn-falls, Falls, costs-start}
-use Rattle.model.proofs.Rows.{found-above, nil-listed, swap-listed, yield-listed, skip-listed}
+use Rattle.model.proofs.Members.{in-left}
+use Rattle.model.proofs.Rows.{found-above, nil-listed, swap-listed, yield-listed, skip-listed, all-listed}
 
 -- the entries that a side has still to show
 spread : List Item → List Entry
@@ -154,25 +155,34 @@ module _ (h : Heap) (L : Linked h) where
             listed = λ rows. swap-listed (find ((k, v) ∷ spread ls)) (find (spread rs)) (find ys) rows (λ i x q. sym (past (j, w) (spread rs) i (found-above ((k, v) ∷ spread ls) j i x a q)));
           })
 
-  walk-listed : (f : ℕ) (s : Sides) → costs s ≤ f → Side (s .left) → Side (s .right) → walk f s .deep ≡ false → Lists s (walk f s .rows)
+  -- rows of a whole walk are all; those of one that was given up begin a list that is
+  abbrev Begins : Sides → Walk → Type 0
+  Begins s w = (more : List Row) × Lists s (w .rows ++ more) × (w .deep ≡ false → more ≡ [])
+
+  over-begins : (s : Sides) → spread (s .left) ≡ [] → Begins s (record { rows = []; deep = false })
+  over-begins s q = ([], rw q (nil-listed (find (spread (s .right)))), λ d. refl)
+
+  walk-listed : (f : ℕ) (s : Sides) → costs s ≤ f → Side (s .left) → Side (s .right) → Begins s (walk f s)
   unfolding walk Falls Tells
-  walk-listed zero s c l r d = go (turn (s .left) (s .right)) (turn-falls (s .left) (s .right)) (turn-tells (s .left) (s .right) l r)
+  walk-listed zero s c l r = go (turn (s .left) (s .right)) (turn-falls (s .left) (s .right)) (turn-tells (s .left) (s .right) l r)
     where
-      go : (o : Turn) → Falls s o → Tells s o → Lists s []
-      go over p q = rw q (nil-listed (find (spread (s .right))))
+      go : (o : Turn) → Falls s o → Tells s o → Begins s (record { rows = []; deep = false })
+      go over p q = over-begins s q
       go (on t) p q = absurd (omega arith)
       go (yield x t) p q = absurd (omega (arith, p .0))
-  walk-listed (suc f) s c l r d = go (turn (s .left) (s .right)) refl (turn-falls (s .left) (s .right)) (turn-tells (s .left) (s .right) l r) (walk-listed f)
+  walk-listed (suc f) s c l r = go (turn (s .left) (s .right)) refl (turn-falls (s .left) (s .right)) (turn-tells (s .left) (s .right) l r) (walk-listed f)
     where
       go : (o : Turn) → turn (s .left) (s .right) ≡ o → Falls s o → Tells s o
-          → ((t : Sides) → costs t ≤ f → Side (t .left) → Side (t .right) → walk f t .deep ≡ false → Lists t (walk f t .rows)) → Lists s (walk (suc f) s .rows)
-      go over e p q ih = rw (e, walk) (rw q (nil-listed (find (spread (s .right)))))
+          → ((t : Sides) → costs t ≤ f → Side (t .left) → Side (t .right) → Begins t (walk f t)) → Begins s (walk (suc f) s)
+      go over e p q ih = rw (e, walk) (over-begins s q)
       go (on t) e p q ih = by (tooDeep t) refl
         where
-          by : (b : Bool) → tooDeep t ≡ b → Lists s (walk (suc f) s .rows)
-          by true z = absurd (true≢false (rw z at (rw (e, walk) at d)))
-          by false z = rw (e, walk) (rw z (q .listed (walk f t .rows) (ih t (omega arith) (q .left) (q .right) (rw z at (rw (e, walk) at d)))))
-      go (yield x t) e p q ih = rw (e, walk) (q .listed (walk f t .rows) (ih t (omega (arith, p .0)) (q .left) (q .right) (rw (e, walk) at d)))
+          by : (b : Bool) → tooDeep t ≡ b → Begins s (walk (suc f) s)
+          by true z =
+              let all = all-listed (spread (t .left)) (find (spread (t .right))) (q .left .sorted) in
+              rw (e, walk) (rw z (all .0, q .listed (all .0) (all .1), λ d. absurd (true≢false d)))
+          by false z = let w = ih t (omega arith) (q .left) (q .right) in rw (e, walk) (rw z (w .0, q .listed (walk f t .rows ++ w .0) (w .1), w .2))
+      go (yield x t) e p q ih = let w = ih t (omega (arith, p .0)) (q .left) (q .right) in rw (e, walk) (w .0, q .listed (walk f t .rows ++ w .0) (w .1), w .2)
 
   side-start : (t : Tree) → Stands h L t → Ordered t → Side (pend t [])
   unfolding Standing spread
@@ -205,14 +215,22 @@ versions-one-heap h S v w p q =
 
 -- The theorems
 
--- a listing that is not too deep: rows ascend strictly, each is right, and a key without a row has the same value on the right
-pub listing-listed : (a b : Tree) → OneHeap a b → listing a b .deep ≡ false → Listed (find (entries a)) (find (entries b)) (listing a b .rows)
+-- the rows of a listing, and those that it did not come to where it is too deep
+listing-begins : (a b : Tree) → OneHeap a b → (more : List Row) × Listed (find (entries a)) (find (entries b)) (listing a b .rows ++ more) × (listing a b .deep ≡ false → more ≡ [])
 unfolding listing spread
-listing-listed a b O d =
+listing-begins a b O =
     rw (spread-pend a [], spread-pend b [], append-nil (entries a), append-nil (entries b)) at
     (walk-listed (O .heap) (O .linked) (turns a b) (start a b) (costs-start a b)
     (side-start (O .heap) (O .linked) a (O .stands-left) (O .ordered-left))
-    (side-start (O .heap) (O .linked) b (O .stands-right) (O .ordered-right)) d)
+    (side-start (O .heap) (O .linked) b (O .stands-right) (O .ordered-right)))
+
+-- a listing that is not too deep: rows ascend strictly, each is right, and a key without a row has the same value on the right
+pub listing-listed : (a b : Tree) → OneHeap a b → listing a b .deep ≡ false → Listed (find (entries a)) (find (entries b)) (listing a b .rows)
+listing-listed a b O d = let w = listing-begins a b O in rw (w .2 d, append-nil (listing a b .rows)) at (w .1)
+
+-- each row is right, of a listing that is too deep too
+pub row-right : (a b : Tree) → OneHeap a b → (r : Row) → r ∈ listing a b .rows → (find (entries a) (r .key) ≡ some (r .left)) × (find (entries b) (r .key) ≡ r .right)
+row-right a b O r m = let w = listing-begins a b O in w .1 .right r (in-left r (listing a b .rows) (w .0) m)
 
 -- the same of two versions of a sound heap
 pub versions-listed : (h : Heap) → Sound h → (v w : ℕ) → v < 16 → w < 16 → listing (version h v) (version h w) .deep ≡ false

@@ -25,7 +25,7 @@ use Rattle.model.proofs.Totals.{union-sums}
 use Rattle.model.proofs.Versions.{version-ordered, union-entries, difference-entries, cancelling-changes-nothing}
 
 -- a refusal's number is not 0
-refused-number : (a : Answer) (n : ℕ) → a ≡ refusal (suc n) → a .number ≡ 0 → ⊥
+pub refused-number : (a : Answer) (n : ℕ) → a ≡ refusal (suc n) → a .number ≡ 0 → ⊥
 refused-number a n e z = let p : suc n ≡ 0 = sym (ap (λ (x : Answer). x .number) e) ∙ z in omega arith
 
 -- an edit that answered 0

@@ -8,6 +8,7 @@ use Rattle.model.specs.Calls.{Check, fails, passes, Checked, Answer, Edi
 use Rattle.model.specs.Frame.{Frame, Reading, good, fault, read}
 use Rattle.model.specs.Inbox.{heardAt}
 use Rattle.model.specs.Lists.{Report, Pieces, Lists}
+use Rattle.model.specs.Lists as lists
 use Rattle.model.specs.Link.{Parse, CheckedInbox, Begin, Missing, Heard, Step, unchanged, Takes, Says, Receive}
 use Rattle.model.proofs.Pinned.{edited-once}
 
@@ -49,6 +50,13 @@ lists-once b out x y start p a c A C = check-once A C same (λ A C. check-once A
   where
     same : {r : Report} {z : List ℕ} → (a ≡ r) × (x ≡ z) → (c ≡ r) × (y ≡ z) → (a ≡ c) × (x ≡ y)
     same f g = (f .0 ∙ sym (g .0), f .1 ∙ sym (g .1))
+
+-- the call that compares two versions
+pub same-once : (b : List ℕ) (from to : ℕ) (r s : Answer) → lists.Same b from to r → lists.Same b from to s → r ≡ s
+same-once b from to r s A C = check-once A C one (λ A C. check-once A C one (λ A C. check-once A C one (λ A C. check-once A C one one)))
+  where
+    one : {x : Answer} → r ≡ x → s ≡ x → r ≡ s
+    one p q = p ∙ sym q
 
 -- the calls of the link
 

@@ -75,7 +75,7 @@ removes-picks (r ∷ rs) = go (r .right) refl (removes-picks rs)
     go (some w) e P = picks-skip asRemove r rs (removes rs) (rw (e, asRemove)) P
 
 -- a row is put exactly when the right side has not its value
-changed-exactly : (r : Row) → (changed r ≡ true) ↔ (r .right ≢ some (r .left))
+pub changed-exactly : (r : Row) → (changed r ≡ true) ↔ (r .right ≢ some (r .left))
 unfolding changed
 changed-exactly r = go (r .right) refl
   where

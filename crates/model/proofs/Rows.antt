@@ -63,6 +63,12 @@ yield-listed k v o xs B C rows a e f I = record { ascends = (λ r m. above r m, 
         let t = find-rest (k, v) xs j w q p in
         ⊎-elim (λ z. inl (f j (found-above xs k j w a t) ∙ z)) (λ z. inr (z .0, inr (z .1), z .2)) (I .whole j w t)
 
+-- a row for every entry is a listing too
+pub all-listed : (xs : List Entry) (B : ℕ → Option ℕ) → Sorted xs → (rows : List Row) × Listed (find xs) B rows
+unfolding Sorted
+all-listed [] B s = ([], nil-listed B)
+all-listed ((k, v) ∷ xs) B s = let w = all-listed xs B (s .1) in (record { key = k; left = v; right = B k } ∷ w .0, yield-listed k v (B k) xs B B (w .0) (s .0) refl (λ j p. refl) (w .1))
+
 -- the same entry first on both sides needs no row
 both-listed : (z : Entry) (xs ys : List Entry) (rows : List Row) → AllAbove (z .0) xs → Listed (find xs) (find ys) rows → Listed (find (z ∷ xs)) (find (z ∷ ys)) rows
 both-listed z xs ys rows a I = record {

@@ -1,16 +1,17 @@
 -- The walk ends, and it is too deep exactly when its loop at some turn is.
-use mathlib.Core.Path.{_≡_, refl, ap, sym, _∙_}
+use mathlib.Core.Path.{_≡_, refl, ap, sym, subst, _∙_}
 use mathlib.Core.Logic.{_⊎_, inl, inr, ⊎-elim, _↔_}
 use Prim.Native.Nat.{ℕ, zero, suc, _+_, _*_, _≤_, _<_, compare, Ordering, Ordering·lt, Ordering·eq, Ordering·gt}
 use mathlib.Core.Bool.{Bool, true, false, true≢false, _||_}
-use mathlib.Core.List.{List, [], _∷_}
+use mathlib.Core.List.{List, [], _∷_, _++_}
 use lib.ListN.{length}
 use lib.Dec.{eqb, ltb, leb}
 use borrow.Author.Tests.{ltb-true, lt-ltb, eq-eqb}
 use native.Mathlib.Omega.{arith}
 use Rattle.model.specs.Tree.{Tree, leaf, node, size, idOf}
-use Rattle.model.specs.Listing.{Item, tree, entry, Sides, Turn, over, on, yield, Walk, pend, opened, turn, tooDeep, walk, start, turns, listing, nextSides, after}
+use Rattle.model.specs.Listing.{Item, tree, entry, Sides, Row, Turn, over, on, yield, Walk, pend, opened, turn, tooDeep, walk, start, turns, listing, until, nextSides, after, rowsIn, _∈_, Overflows}
 use Rattle.model.proofs.Tests.{either}
+use Rattle.model.proofs.Members.{in-left}
 
 -- the turns that a side can take: two for each node of a tree, one for an entry
 unfoldable pub cost : List Item → ℕ
@@ -129,36 +130,65 @@ shallow-start leaf (node i k v l r) = refl
 shallow-start (node i k v l r) leaf = refl
 shallow-start (node i k v l r) (node j h w x y) = refl
 
-deep-reached : (f : ℕ) (s : Sides) → walk f s .deep ≡ true → (n : ℕ) × (tooDeep (after n s) ≡ true)
-unfolding walk after nextSides
+-- it is given up at some turn, with the rows up to there
+deep-reached : (f : ℕ) (s : Sides) → walk f s .deep ≡ true → (n : ℕ) × (tooDeep (after n s) ≡ true) × (rowsIn n s ≡ walk f s .rows)
+unfolding walk after nextSides rowsIn
 deep-reached zero s d = absurd (true≢false (sym d))
 deep-reached (suc f) s d = go (turn (s .left) (s .right)) refl (deep-reached f)
   where
-    go : (o : Turn) → turn (s .left) (s .right) ≡ o → ((t : Sides) → walk f t .deep ≡ true → (n : ℕ) × (tooDeep (after n t) ≡ true)) → (n : ℕ) × (tooDeep (after n s) ≡ true)
+    Reached : Type 0
+    Reached = (n : ℕ) × (tooDeep (after n s) ≡ true) × (rowsIn n s ≡ walk (suc f) s .rows)
+
+    go : (o : Turn) → turn (s .left) (s .right) ≡ o → ((t : Sides) → walk f t .deep ≡ true → (n : ℕ) × (tooDeep (after n t) ≡ true) × (rowsIn n t ≡ walk f t .rows)) → Reached
     go over e ih = absurd (true≢false (sym (rw (e, walk) at d)))
     go (on t) e ih = by (tooDeep t) refl
       where
-        by : (b : Bool) → tooDeep t ≡ b → (n : ℕ) × (tooDeep (after n s) ≡ true)
-        by true p = (1, rw (e, nextSides) p)
-        by false p = let w = ih t (rw p at (rw (e, walk) at d)) in (suc (w .0), rw (e, nextSides) (w .1))
-    go (yield r t) e ih = let w = ih t (rw (e, walk) at d) in (suc (w .0), rw (e, nextSides) (w .1))
+        by : (b : Bool) → tooDeep t ≡ b → Reached
+        by true p = (1, rw (e, nextSides) p, rw (e, rowsIn, walk) (rw p))
+        by false p = let w = ih t (rw p at (rw (e, walk) at d)) in (suc (w .0), rw (e, nextSides) (w .1), rw (e, rowsIn, walk) (rw p (w .2)))
+    go (yield r t) e ih = let w = ih t (rw (e, walk) at d) in (suc (w .0), rw (e, nextSides) (w .1), rw (e, rowsIn, walk) (ap (λ (rs : List Row). r ∷ rs) (w .2)))
 
-reached-deep : (n f : ℕ) (s : Sides) → costs s ≤ f → tooDeep s ≡ false → tooDeep (after n s) ≡ true → walk f s .deep ≡ true
-unfolding walk after nextSides Falls
+-- a turn that leaves too much pending is the walk's last or comes after it
+reached-deep : (n f : ℕ) (s : Sides) → costs s ≤ f → tooDeep s ≡ false → tooDeep (after n s) ≡ true → (more : List Row) × (walk f s .deep ≡ true) × (rowsIn n s ≡ walk f s .rows ++ more)
+unfolding walk after nextSides rowsIn Falls
 reached-deep zero f s c e d = absurd (true≢false (sym d ∙ e))
 reached-deep (suc n) f s c e d = go (turn (s .left) (s .right)) refl (turn-falls (s .left) (s .right)) f c (reached-deep n)
   where
+    Given : ℕ → Type 0
+    Given f = (more : List Row) × (walk f s .deep ≡ true) × (rowsIn (suc n) s ≡ walk f s .rows ++ more)
+
+    stays : (m : ℕ) → turn (s .left) (s .right) ≡ over → after m s ≡ s
+    stays zero p = refl
+    stays (suc m) p = rw (p, nextSides) (stays m p)
+
     go : (o : Turn) → turn (s .left) (s .right) ≡ o → Falls s o → (f : ℕ) → costs s ≤ f
-        → ((f : ℕ) (t : Sides) → costs t ≤ f → tooDeep t ≡ false → tooDeep (after n t) ≡ true → walk f t .deep ≡ true) → walk f s .deep ≡ true
-    go over p q f c ih = ih f s c e (rw (p, nextSides) at d)
+        → ((f : ℕ) (t : Sides) → costs t ≤ f → tooDeep t ≡ false → tooDeep (after n t) ≡ true → (more : List Row) × (walk f t .deep ≡ true) × (rowsIn n t ≡ walk f t .rows ++ more)) → Given f
+    go over p q f c ih = absurd (true≢false (sym d ∙ (ap tooDeep (stays (suc n) p) ∙ e)))
     go (on t) p q zero c ih = absurd (omega arith)
     go (on t) p q (suc f) c ih = by (tooDeep t) refl
       where
-        by : (b : Bool) → tooDeep t ≡ b → walk (suc f) s .deep ≡ true
-        by true z = rw (p, walk) (rw z)
-        by false z = rw (p, walk) (rw z (ih f t (omega arith) z (rw (p, nextSides) at d)))
+        by : (b : Bool) → tooDeep t ≡ b → Given (suc f)
+        by true z = (rowsIn n t, rw (p, walk) (rw z), rw (p, rowsIn, walk) (rw z))
+        by false z = let w = ih f t (omega arith) z (rw (p, nextSides) at d) in (w .0, rw (p, walk) (rw z (w .1)), rw (p, rowsIn, walk) (rw z (w .2)))
     go (yield r t) p q zero c ih = absurd (omega (arith, q .0))
-    go (yield r t) p q (suc f) c ih = rw (p, walk) (ih f t (omega (arith, q .0)) (shallow-yield s t (q .1) (q .2) e) (rw (p, nextSides) at d))
+    go (yield r t) p q (suc f) c ih =
+        let w = ih f t (omega (arith, q .0)) (shallow-yield s t (q .1) (q .2) e) (rw (p, nextSides) at d) in
+        (w .0, rw (p, walk) (w .1), rw (p, rowsIn, walk) (ap (λ (rs : List Row). r ∷ rs) (w .2)))
+
+-- Until a first row
+
+pub until-deep : (kind : Row → Bool) (rs : List Row) (d : Bool) → (until kind rs d .deep ≡ true) ↔ ((d ≡ true) × ((r : Row) → r ∈ rs → kind r ≡ false))
+unfolding until _∈_
+until-deep kind [] d = (λ e. (e, λ r m. absurd m), λ p. p .0)
+until-deep kind (r ∷ rs) d = go (kind r) refl (until-deep kind rs d)
+  where
+    go : (t : Bool) → kind r ≡ t → (until kind rs d .deep ≡ true) ↔ ((d ≡ true) × ((q : Row) → q ∈ rs → kind q ≡ false))
+        → (until kind (r ∷ rs) d .deep ≡ true) ↔ ((d ≡ true) × ((q : Row) → (q ≡ r) ⊎ (q ∈ rs) → kind q ≡ false))
+    go true e ih = (λ p. absurd (true≢false (sym (rw (e, until) at p))), λ p. absurd (true≢false (sym e ∙ p .1 r (inl refl))))
+    go false e ih = (
+      λ p. let w = ih .0 (rw (e, until) at p) in (w .0, λ q. ⊎-elim (λ f. ap kind f ∙ e) (w .1 q)),
+      λ p. rw (e, until) (ih .1 (p .0, λ q m. p .1 q (inr m))),
+    )
 
 -- The theorems
 
@@ -172,7 +202,20 @@ pub too-deep-exactly : (a b : Tree) → (listing a b .deep ≡ true) ↔ ((n : �
 unfolding listing
 too-deep-exactly a b = (
   (λ d. let w = deep-reached (turns a b) (start a b) d in (w .0, deep-says (after (w .0) (start a b)) .0 (w .1))),
-  (λ w. reached-deep (w .0) (turns a b) (start a b) (costs-start a b) (shallow-start a b) (deep-says (after (w .0) (start a b)) .1 (w .1))),
+  (λ w. reached-deep (w .0) (turns a b) (start a b) (costs-start a b) (shallow-start a b) (deep-says (after (w .0) (start a b)) .1 (w .1)) .1),
+)
+
+-- a walk that is left at its first row of a kind: TOO_DEEP exactly when the loop has more than 64 items pending on one side at some turn, and no row up to it is of the kind
+pub too-deep-first : (kind : Row → Bool) (a b : Tree) → (until kind (listing a b .rows) (listing a b .deep) .deep ≡ true) ↔ Overflows kind a b
+unfolding listing
+too-deep-first kind a b = (
+  λ d.
+      let u = until-deep kind (listing a b .rows) (listing a b .deep) .0 d in
+      let w = deep-reached (turns a b) (start a b) (u .0) in
+      record { turn = w .0; pending = deep-says (after (w .0) (start a b)) .0 (w .1); before = λ r m. u .1 r (subst (λ rs. r ∈ rs) (w .2) m) },
+  λ o.
+      let w = reached-deep (o .turn) (turns a b) (start a b) (costs-start a b) (shallow-start a b) (deep-says (after (o .turn) (start a b)) .1 (o .pending)) in
+      until-deep kind (listing a b .rows) (listing a b .deep) .1 (w .1, λ r m. o .before r (subst (λ rs. r ∈ rs) (sym (w .2)) (in-left r (listing a b .rows) (w .0) m))),
 )
 
 -- an empty left lists nothing

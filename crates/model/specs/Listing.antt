@@ -91,6 +91,14 @@ turns a b = 2 * (size a + size b) + 1
 unfoldable pub listing : Tree → Tree → Walk
 listing a b = walk (turns a b) (start a b)
 
+-- a walk that is left at its first row of a kind: that row is the last, and how deep the rest would have been does not count
+unfoldable pub until : (Row → Bool) → List Row → Bool → Walk
+until kind [] deep = record { rows = []; deep = deep }
+until kind (r ∷ rs) deep = elim (kind r) [
+  | true ↦ record { rows = r ∷ []; deep = false }
+  | false ↦ let w = until kind rs deep in record { rows = r ∷ w .rows; deep = w .deep }
+]
+
 -- the sides after one turn; a loop that is over stays as it is
 unfoldable pub nextSides : Sides → Sides
 nextSides s = elim (turn (s .left) (s .right)) [ over ↦ s | on t ↦ t | yield r t ↦ t ]
@@ -99,6 +107,11 @@ nextSides s = elim (turn (s .left) (s .right)) [ over ↦ s | on t ↦ t | yield
 unfoldable pub after : ℕ → Sides → Sides
 after zero s = s
 after (suc n) s = after n (nextSides s)
+
+-- the rows of n turns, with no limit on what is pending
+unfoldable pub rowsIn : ℕ → Sides → List Row
+rowsIn zero s = []
+rowsIn (suc n) s = elim (turn (s .left) (s .right)) [ over ↦ [] | on t ↦ rowsIn n t | yield r t ↦ r ∷ rowsIn n t ]
 
 -- What is said of a listing.
 
@@ -123,3 +136,9 @@ pub record Listed (A B : ℕ → Option ℕ) (rows : List Row) : Type 0 where
   pub ascends : Ascending (λ (r : Row). r .key) rows
   pub right : (r : Row) → r ∈ rows → (A (r .key) ≡ some (r .left)) × (B (r .key) ≡ r .right)
   pub whole : (k v : ℕ) → A k ≡ some v → (B k ≡ some v) ⊎ ((r : Row) × (r ∈ rows) × (r .key ≡ k))
+
+-- the loop of a against b has more than 64 items pending on one side after some turn, and no row up to that turn is of the kind
+pub record Overflows (kind : Row → Bool) (a b : Tree) : Type 0 where
+  pub turn : ℕ
+  pub pending : (64 < length (after turn (start a b) .left)) ⊎ (64 < length (after turn (start a b) .right))
+  pub before : (r : Row) → r ∈ rowsIn turn (start a b) → kind r ≡ false

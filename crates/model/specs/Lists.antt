@@ -1,17 +1,19 @@
--- What the calls that list answer: listing and frames, each from a start index into the caller's output.
+-- What the calls that list answer: listing and frames, each from a start index into the caller's output; and same, which walks and writes nothing.
 use mathlib.Core.Path.{_≡_}
 use Prim.Native.Nat.{ℕ, _/_}
-use mathlib.Core.Bool.{Bool, false}
-use mathlib.Core.Option.{Option, none, some}
+use mathlib.Core.Bool.{Bool, true, false}
+use mathlib.Core.Option.{none, some}
 use mathlib.Core.List.{List, [], _∷_, _++_, map}
 use lib.ListN.{length, take, drop}
-use Rattle.model.specs.Listing.{Row, listing}
-use Rattle.model.specs.Delta.{deltaDeep}
+use lib.Dec.{eqb}
+use Rattle.model.specs.Tree.{Tree, size}
+use Rattle.model.specs.Listing.{Row, Walk, listing, until}
+use Rattle.model.specs.Delta.{changed, puts, deltaDeep}
 use Rattle.model.specs.Heap.{version}
 use Rattle.model.specs.Block.{heap, Shaped, SoundBlock}
 use Rattle.model.specs.Frame.{line, frames}
 use Rattle.model.specs.Numbers.{SHAPE, DAMAGED, VERSION, TOO_DEEP}
-use Rattle.model.specs.Calls.{Check, Versions}
+use Rattle.model.specs.Calls.{Check, Answer, refusal, giving, Versions}
 
 -- key, left value, 1 if common else 0, right value or 0
 unfoldable pub rowWords : Row → List ℕ
@@ -67,3 +69,23 @@ framed b a c batch = record {
   width = 35;
   pieces = map line (frames batch (version (heap b) a) (version (heap b) c));
 }
+
+-- c is walked against a, and left at the first entry that differs
+abbrev pub drift : (a c : Tree) → Walk
+drift a c = let w = listing c a in until changed (w .rows) (w .deep)
+
+-- 1 for yes: no put turns up, and the sizes are equal
+unfoldable pub alike : (a c : Tree) → ℕ
+alike a c = elim (puts (drift a c .rows)) [
+  | [] ↦ elim (eqb (size a) (size c)) [ true ↦ 1 | false ↦ 0 ]
+  | p ∷ ps ↦ 0
+]
+
+-- whether two versions hold the same entries: block, versions, depth up to the first entry that differs
+abbrev pub Same : (b : List ℕ) (from to : ℕ) → Answer → Type 0
+Same b from to r =
+    Check (Shaped b) (r ≡ refusal SHAPE)
+    (Check (SoundBlock b) (r ≡ refusal DAMAGED)
+    (Check (Versions (from ∷ to ∷ [])) (r ≡ refusal VERSION)
+    (Check (drift (version (heap b) from) (version (heap b) to) .deep ≡ false) (r ≡ refusal TOO_DEEP)
+    (r ≡ giving (alike (version (heap b) from) (version (heap b) to))))))

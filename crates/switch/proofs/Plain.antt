@@ -6,6 +6,7 @@ use lib.Dec.{ltb}
 use borrow.Author.Tests.{lt-ltb, le-ltb}
 use Rattle.switch.specs.Cancels.{ruleFor}
 use Rattle.model.specs.Calls.{fails, passes, Answer, giving, Edit, Reads, Edits, Fresh}
+use Rattle.model.specs.Lists.{Same}
 
 -- the answer with its number alone, and with its value
 abbrev pub numbered : Answer → Answer
@@ -23,6 +24,13 @@ read-plain b vs n a (fails p r) = fails p (ap valued r)
 read-plain b vs n a (passes p (fails q r)) = passes p (fails q (ap valued r))
 read-plain b vs n a (passes p (passes q (fails u r))) = passes p (passes q (fails u (ap valued r)))
 read-plain b vs n a (passes p (passes q (passes u r))) = passes p (passes q (passes u (ap valued r)))
+
+pub same-plain : (b : List ℕ) (from to : ℕ) (a : Answer) → Same b from to a → Same b from to (valued a)
+same-plain b from to a (fails p r) = fails p (ap valued r)
+same-plain b from to a (passes p (fails q r)) = passes p (fails q (ap valued r))
+same-plain b from to a (passes p (passes q (fails u r))) = passes p (passes q (fails u (ap valued r)))
+same-plain b from to a (passes p (passes q (passes u (fails d r)))) = passes p (passes q (passes u (fails d (ap valued r))))
+same-plain b from to a (passes p (passes q (passes u (passes d r)))) = passes p (passes q (passes u (passes d (ap valued r))))
 
 pub edit-plain : (b after : List ℕ) (e : Edit) (a : Answer) → e .answer ≡ giving 0 → Edits b after e a → Edits b after e (numbered a)
 edit-plain b after e a z (fails p r) = fails p (ap numbered (r .0), r .1)

@@ -2,7 +2,7 @@
 ghost use Rattle.model.specs.Calls.{Fresh, Lookup, Size, Held, HeldBetween, Edits, inserting, removing, copying, clearing, uniting, lessening, Checked};
 ghost use Rattle.model.specs.Batch.{BatchWords};
 ghost use Rattle.model.specs.Frame.{read};
-ghost use Rattle.model.specs.Lists.{Lists, listed, framed};
+ghost use Rattle.model.specs.Lists.{Lists, listed, framed, Same};
 ghost use Rattle.model.specs.Link.{Parse, Begin, Missing, Receive};
 ghost use Rattle.ledger.specs.Ledger as totals;
 ghost use Rattle.switch.specs.Cancels.{ruleFor};
@@ -212,6 +212,16 @@ pub extern "C" fn ksk_frames(
     let a = lists::lines::frames(block, from, to, batch, start, out);
     *written = a.written;
     *total = a.total;
+    a.number
+}
+
+// Whether two versions hold the same entries: 1 or 0.
+#[no_mangle]
+pub extern "C" fn ksk_same(block: &[u32], from: u32, to: u32, same: &mut u32) -> u32
+    ensures { λ r. ⌜ Same (now (block .entry)) from to (record { number = r; found = 0; value = now (same .exit) }) ⌝ }
+{
+    let a = lists::same::same(block, from, to);
+    *same = a.value;
     a.number
 }
 

@@ -1,13 +1,13 @@
 -- Which rows of a listing are wanted, and their words in the output.
 use mathlib.Core.Path.{_≡_}
-use Prim.Native.Nat.{ℕ, _-_, _*_, _/_}
+use Prim.Native.Nat.{ℕ, zero, suc, _-_, _*_, _/_}
 use mathlib.Core.Bool.{Bool, true, false, not}
 use mathlib.Core.Option.{Option, none, some}
 use mathlib.Core.List.{List, [], _∷_, _++_}
 use lib.ListN.{length, take, drop}
 use lib.Seq.{sets}
 use lib.Dec.{eqb, ltb, leb}
-use Rattle.model.specs.Listing.{Row, Walk}
+use Rattle.model.specs.Listing.{Row, Walk, until}
 use Rattle.model.specs.Delta.{Change, changed}
 use Rattle.walk.specs.declared.Yield.{Yield}
 use Rattle.walk.specs.declared.Yield.the-variants.{Only, Common}
@@ -72,6 +72,17 @@ written w start rows out = part w start (length out) rows ++ drop (length (part 
 -- too deep, or how many rows are wanted
 unfoldable pub answer : Wanted → Walk → Walked
 answer w k = elim (k .deep) [ true ↦ TooDeep | false ↦ Total (length (chosen w (k .rows))) ]
+
+-- the whole walk, or up to its first wanted row
+abbrev pub upto : Bool → Wanted → Walk → Walk
+upto false w k = k
+upto true w k = until (wants w) (k .rows) (k .deep)
+
+-- turns left after a row of which k are wanted: none, where one wanted row is enough
+abbrev pub turnsLeft : Bool → ℕ → ℕ → ℕ
+turnsLeft false k f = f
+turnsLeft true zero f = f
+turnsLeft true (suc k) f = 0
 
 -- a change of the delta as two words: its key, and its value or 0
 unfoldable pub changeWords : List Change → List ℕ

@@ -5,7 +5,7 @@ ghost use Prim.Native.Nat.{_-_, _<_, _≤_};
 ghost use Rattle.model.specs.Heap.{Named, Occupied, Linked, tree};
 ghost use Rattle.model.specs.Block.{heap, Shaped, SoundBlock};
 ghost use Rattle.model.specs.Listing.{listing};
-ghost use Rattle.walk.specs.Rows.{wants, wordsBy, words, width, changedBy, lackingBy, row, putAt, counted, shown, written, answer};
+ghost use Rattle.walk.specs.Rows.{wants, wordsBy, words, width, changedBy, lackingBy, row, putAt, counted, shown, written, answer, upto, turnsLeft};
 ghost use Rattle.walk.specs.Cursors.{oneOf, placeOf, popsOf, Standing, openedAt, trees, entries, bothOf, aloneOf, actOf, begun};
 
 // What is pending: a tree, or an entry whose left child has been shown.
@@ -300,12 +300,33 @@ fn show(out: &mut [u32], wanted: Wanted, start: u32, n: u32, y: Yield) -> u32
     1
 }
 
-// The whole walk of left against right: how many rows are wanted, and their words in the output from index start on.
+// The turns that are left after a row of which k are wanted: none, where one wanted row is enough.
+fn turns_left(once: bool, k: u32, fuel: u32) -> u32
+    ensures { λ r. ⌜ r ≡ turnsLeft once k fuel ⌝ }
+{
+    if !once {
+        return fuel;
+    }
+    if k == 0 {
+        return fuel;
+    }
+    0
+}
+
+// The walk of left against right, whole or up to its first wanted row: how many rows are wanted, and their words in the output from index start on.
 // One function, since a cursor that is handed over is copied place by place.
-pub fn walk(b: &[u32], left: u32, right: u32, wanted: Wanted, start: u32, out: &mut [u32]) -> Walked
+pub fn walk(
+    b: &[u32],
+    left: u32,
+    right: u32,
+    wanted: Wanted,
+    start: u32,
+    out: &mut [u32],
+    once: bool,
+) -> Walked
     requires { ⌜ SoundBlock (now b) × Named (heap (now b)) left × Named (heap (now b)) right ⌝ }
-    ensures { λ r. ⌜ r ≡ answer wanted (listing (tree (heap (now (b .entry))) left) (tree (heap (now (b .entry))) right)) ⌝ }
-    ensures { λ r. ⌜ now (out .exit) ≡ written wanted start (listing (tree (heap (now (b .entry))) left) (tree (heap (now (b .entry))) right) .rows) (now (out .entry)) ⌝ }
+    ensures { λ r. ⌜ r ≡ answer wanted (upto once wanted (listing (tree (heap (now (b .entry))) left) (tree (heap (now (b .entry))) right))) ⌝ }
+    ensures { λ r. ⌜ now (out .exit) ≡ written wanted start (upto once wanted (listing (tree (heap (now (b .entry))) left) (tree (heap (now (b .entry))) right)) .rows) (now (out .entry)) ⌝ }
 {
     let mut l = begin(left);
     let mut r = begin(right);
@@ -362,7 +383,9 @@ pub fn walk(b: &[u32], left: u32, right: u32, wanted: Wanted, start: u32, out: &
             Act::Give(y) => {
                 l.len = li;
                 r.len = rn - pops(y);
-                n = n + show(out, wanted, start, n, y);
+                let k = show(out, wanted, start, n, y);
+                n = n + k;
+                fuel = turns_left(once, k, fuel);
             }
         }
     }

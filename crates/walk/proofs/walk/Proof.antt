@@ -12,13 +12,13 @@ use Rattle.model.specs.Listing.{listing}
 use Rattle.walk.specs.Rows.{row}
 use Rattle.walk.proofs.Piles.{opened-order}
 use Rattle.walk.proofs.Acts.{stand-a, stand-z}
-use Rattle.walk.proofs.Goings.{told, told-total, told-deep, Going, going-begins, stops, ends, Chosen, faces, fitting, goes-left, deepens-left, goes-right, deepens-right, goes-down, goes-on, counted-le, small}
+use Rattle.walk.proofs.Goings.{told, told-total, told-deep, Going, going-begins, stops, ends, Chosen, faces, fitting, goes-left, deepens-left, goes-right, deepens-right, goes-down, goes-on, counted-le, left-le, small}
 
 abbrev Inv-loop : tie.InvT-loop
-Inv-loop b left right wanted start out₀ l₀ r₀ n₀ fuel₀ out l r n fuel = Going (heap b) wanted start (told wanted start (listing (tree (heap b) left) (tree (heap b) right)) 0 out₀) l r n fuel out × (n + fuel ≤ 16385) × (length out ≡ length out₀)
+Inv-loop b left right wanted start out₀ once l₀ r₀ n₀ fuel₀ out l r n fuel = Going (heap b) once wanted start (told once wanted start (listing (tree (heap b) left) (tree (heap b) right)) 0 out₀) l r n fuel out × (n + fuel ≤ 16385) × (length out ≡ length out₀)
 
 abbrev μ-loop : tie.MeasureT-loop
-μ-loop b left right wanted start out₀ l₀ r₀ n₀ fuel₀ out l r n fuel = fuel
+μ-loop b left right wanted start out₀ once l₀ r₀ n₀ fuel₀ out l r n fuel = fuel
 
 abbrev Entry : Type 0
 Entry = tie.Start Inv-loop μ-loop
@@ -85,7 +85,7 @@ loop-holds : tie.Need-loop-holds Inv-loop μ-loop
 loop-holds c =
     let s = c .before .before .before .before .before .before in
     let a = s .args in (
-      going-begins (heap (a .b .now)) (a .wanted) (a .start) (a .left) (a .right) _ _ _ _ (ready s .1) (s .pre .1) (s .pre .2) (c .before .before .before .begin .ensures) (c .before .before .begin2 .ensures) (rw (c .before .size-at .ensures, c .size-at2 .ensures)),
+      going-begins (heap (a .b .now)) (a .once) (a .wanted) (a .start) (a .left) (a .right) _ _ _ _ (ready s .1) (s .pre .1) (s .pre .2) (c .before .before .before .begin .ensures) (c .before .before .begin2 .ensures) (rw (c .before .size-at .ensures, c .size-at2 .ensures)),
       omega (arith, sizes c),
       refl,
     )
@@ -97,7 +97,7 @@ same-length : tie.Need-same-length Inv-loop μ-loop
 same-length c = c .before .before .loop .inv .2
 
 returns : tie.Need-returns Inv-loop μ-loop
-returns c = told-total _ _ _ _ _ _ (ends (c .before .before .loop .inv .0) (c .before .loop-test .taken) (c .if1 .taken))
+returns c = told-total _ _ _ _ _ _ _ (ends (c .before .before .loop .inv .0) (c .before .loop-test .taken) (c .if1 .taken))
 
 sub-li : tie.Need-sub-li Inv-loop μ-loop
 sub-li c = omega (arith, c .if1 .left)
@@ -141,7 +141,7 @@ returns-2 c =
     let q = c .before .before .before .before in
     let p = q .before .before .before .before in
     let v = turn-of p .loop .inv in
-    told-deep _ _ _ _ _ _ (deepens-left (v .0) (chosen p) (q .before .before .m .given .1) (q .«open» .ensures) (c .if2 .taken))
+    told-deep _ _ _ _ _ _ _ (deepens-left (v .0) (chosen p) (q .before .before .m .given .1) (q .«open» .ensures) (c .if2 .taken))
 
 mul-p : tie.Need-mul-p Inv-loop μ-loop
 mul-p c =
@@ -198,7 +198,7 @@ returns-3 c =
     let q = c .before .before .before .before in
     let p = q .before .before .before .before in
     let v = turn-of p .loop .inv in
-    told-deep _ _ _ _ _ _ (deepens-right (v .0) (chosen p) (q .before .before .m2 .given .1) (q .open2 .ensures) (c .if3 .taken))
+    told-deep _ _ _ _ _ _ _ (deepens-right (v .0) (chosen p) (q .before .before .m2 .given .1) (q .open2 .ensures) (c .if3 .taken))
 
 mul-p-2 : tie.Need-mul-p-2 Inv-loop μ-loop
 mul-p-2 c = let p = c .before .before .before .before .before .before .before .before in omega (arith, p .before .before .top-index .ensures .1)
@@ -271,22 +271,34 @@ add-n c =
     let one = counted-le (entry-of p .args .wanted) (row (c .before .before .before .before .before .before .y .given .0 .0)) in
     omega (arith, v .1, c .before .before .show .ensures .0)
 
+turns-left-requires : tie.Need-turns-left-requires Inv-loop μ-loop
+turns-left-requires c κs = tt
+
+-- the turns that are left after a row
+fewer : (c : tie.After-turns-left Inv-loop μ-loop) → c .turns-left .result ≤ turn-of (c .before .before .before .before .before .before .before .before .before) .loop .fuel - 1
+fewer c =
+    let p = c .before .before .before .before .before .before .before .before .before in
+    rw (c .turns-left .ensures) (left-le (entry-of p .args .once) (c .before .before .before .show .result) (turn-of p .loop .fuel - 1))
+
 loop-less-4 : tie.Need-loop-less-4 Inv-loop μ-loop
-loop-less-4 c = omega arith
+loop-less-4 c =
+    let p = c .before .before .before .before .before .before .before .before .before in
+    omega (arith, fewer c, (chosen p) .turns)
 
 loop-again-4 : tie.Need-loop-again-4 Inv-loop μ-loop
 loop-again-4 c =
-    let p = c .before .before .before .before .before .before .before .before in
+    let p = c .before .before .before .before .before .before .before .before .before in
     let v = turn-of p .loop .inv in
-    let s = c .before .before .show in
-    let one = counted-le (entry-of p .args .wanted) (row (c .before .before .before .before .before .before .y .given .0 .0)) in
-    (goes-on (v .0) (chosen p) (c .before .before .before .before .before .before .y .given .1) (c .before .before .before .before .pops .ensures) (s .ensures .0) (s .ensures .1), omega (arith, v .1, s .ensures .0), s .kept .0 ∙ v .2)
+    let s = c .before .before .before .show in
+    let y = c .before .before .before .before .before .before .before .y .given in
+    let one = counted-le (entry-of p .args .wanted) (row (y .0 .0)) in
+    (goes-on (v .0) (chosen p) (y .1) (c .before .before .before .before .before .pops .ensures) (s .ensures .0) (s .ensures .1) (c .turns-left .ensures), omega (arith, v .1, s .ensures .0, fewer c, (chosen p) .turns), s .kept .0 ∙ v .2)
 
 same-length-4 : tie.Need-same-length-4 Inv-loop μ-loop
 same-length-4 c = c .before .loop .inv .2
 
 returns-4 : tie.Need-returns-4 Inv-loop μ-loop
-returns-4 c = told-total _ _ _ _ _ _ (stops (c .before .loop .inv .0) (omega arith))
+returns-4 c = told-total _ _ _ _ _ _ _ (stops (c .before .loop .inv .0) (omega arith))
 
 pub walk-spec : {M : Type 1} → statement M
 walk-spec =
@@ -347,6 +359,7 @@ walk-spec =
     sub-r
     show-requires
     add-n
+    turns-left-requires
     loop-less-4
     loop-again-4
     same-length-4
