@@ -39,6 +39,7 @@ static void unite(void) { answer = ksk_union(block, WORDS, in.dest, in.left, in.
 static void difference(void) { answer = ksk_difference(block, WORDS, in.dest, in.left, in.right, in.rule, in.cancel); }
 static void list(void) { answer = ksk_list(block, WORDS, in.left, in.right, 0, entries, ENTRIES, field, field + 1); }
 static void frames(void) { answer = ksk_frames(block, WORDS, in.left, in.right, 7, 0, lines, LINES, field, field + 1); }
+static void same(void) { answer = ksk_same(block, WORDS, in.left, in.right, field); }
 static void parse(void) { answer = ksk_parse(line, KSK_LINE_BYTES, field, field + 1, field + 2, field + 3, field + 4, field + 5, field + 6); }
 static void begin(void) { answer = ksk_begin(inbox, KSK_INBOX_WORDS, 7); }
 static void receive(void) { answer = ksk_receive(block, WORDS, inbox, KSK_INBOX_WORDS, in.dest, line, KSK_LINE_BYTES, field, field + 1, field + 2); }
@@ -73,6 +74,7 @@ static struct call {
     { "ksk_difference", difference, 0, 0, "" },
     { "ksk_list", list, 0, 0, "" },
     { "ksk_frames", frames, 0, 0, "" },
+    { "ksk_same", same, 0, 0, "" },
     { "ksk_parse", parse, 0, 0, "" },
     { "ksk_begin", begin, 0, 0, "" },
     { "ksk_receive", receive, 0, 0, "" },
@@ -177,6 +179,7 @@ static void measure_pair(struct shape shape)
             measure(difference, shape);
     measure(list, shape);
     measure(frames, shape);
+    measure(same, shape);
 }
 
 /* Every call on the shape, into the version that has it and into an empty one. */

@@ -15,6 +15,10 @@ use oracle::wbtree::map::look;
 use std::hint::black_box;
 use std::time::Instant;
 
+extern "C" {
+    fn ksk_same(block: *const u32, words: usize, from: u32, to: u32, same: *mut u32) -> u32;
+}
+
 /// How many blocks of a kind take turns.
 const BLOCKS: u64 = 8;
 
@@ -51,14 +55,22 @@ fn entries(n: usize, count: u32, seed: u64) -> Table {
     table
 }
 
-/// Version 1 is version 0 with ten neighbouring values changed: at N = 2,048 there is no room for changes far apart.
-fn changed(n: usize, seed: u64) -> Table {
+/// Version 0 with 2,000 entries, and version 1 with some of them put again.
+fn again(n: usize, keys: &[u32], value: impl Fn(u32) -> u32, seed: u64) -> Table {
     let mut table = entries(n, 2000, seed);
     edited(&mut table, Call::Copy { dest: 1, source: 0 });
-    for key in (1000..1020).step_by(2) {
-        edited(&mut table, Call::Insert { dest: 1, source: 1, key, value: 1 });
-    }
+    put(&mut table, 1, keys, value);
     table
+}
+
+/// Version 1 is version 0 with ten neighbouring values changed: at N = 2,048 there is no room for changes far apart.
+fn changed(n: usize, seed: u64) -> Table {
+    again(n, &keys_from(1000, 2), |_| 1, seed)
+}
+
+/// Ten keys.
+fn keys_from(first: u32, step: u32) -> Vec<u32> {
+    (0..10).map(|i| first + step * i).collect()
 }
 
 /// Version 0 with an entry in every node, from the middle: no call could fill the block so.
@@ -324,6 +336,36 @@ fn bad_line(n: usize, rounds: usize) {
     println!("{:42} {:6.2} {exported:13} {own:13}", format!("receive of a bad line, N = {n}"), exported as f64 / own as f64);
 }
 
+/// Whether versions 0 and 1 hold the same entries.
+fn same(block: &[u32]) -> bool {
+    let mut same = 2;
+    assert_eq!(unsafe { ksk_same(block.as_ptr(), block.len(), 0, 1, &mut same) }, 0);
+    same == 1
+}
+
+/// That question beside a lookup in the same block: both pay for the audit.
+fn questions(n: usize, rounds: usize) {
+    println!("\n{:42} {:>6} {:>13} {:>13}", format!("N = {n}, same entries?"), "ratio", "same, ns", "lookup, ns");
+    let lookup = Call::Lookup { version: 0, key: 76 };
+    for (name, table, alike) in [
+        ("no: the first of 2,000 differs", again(n, &[0], |_| 2, 0), false),
+        ("no: ten of 2,000 differ, far apart", again(n, &keys_from(200, 400), |_| 1, 0), false),
+        ("yes: ten neighbours put again as they were", again(n, &keys_from(1000, 2), |key| key + 1, 0), true),
+        ("yes: ten far apart put again as they were", again(n, &keys_from(200, 400), |key| key + 1, 0), true),
+        ("yes: 1,000, put in another order", common(n, 1000, 0, |key| key + 1), true),
+    ] {
+        let (start, mut reply) = (table.words(), lookup.blank());
+        let (mut asked, mut looked) = (u128::MAX, u128::MAX);
+        for _ in 0..rounds {
+            let mut block = start.clone();
+            asked = asked.min(nanoseconds(|| assert_eq!(same(black_box(&block)), alike)));
+            block.copy_from_slice(&start);
+            looked = looked.min(nanoseconds(|| exports::run_into(black_box(&mut block), &mut [], &lookup, &mut reply)));
+        }
+        println!("{name:42} {:6.2} {asked:13} {looked:13}", asked as f64 / looked as f64);
+    }
+}
+
 /// Whether the exported union of two versions of k entries each, of which so many in a hundred are common, finds room beside them.
 fn finds_room(n: usize, k: u32, common: u32) -> bool {
     let mut table = entries(n, k, 0);
@@ -372,6 +414,7 @@ fn main() {
         println!("{common:3} in 100 common: {}", largest_union(4096, common));
     }
     operations(4096, rounds);
+    questions(4096, rounds);
     reading_lines(rounds);
     [2048, 4096].iter().for_each(|&n| bad_line(n, rounds));
 }
