@@ -71,6 +71,10 @@ pub enum Call {
         start: u32,
         room: usize,
     },
+    Same {
+        from: u32,
+        to: u32,
+    },
     Receive {
         version: u32,
         line: Vec<u8>,
@@ -117,7 +121,7 @@ impl Call {
             | Call::Batch { dest, source, .. } => vec![dest, source],
             Call::Union { dest, left, right, .. } | Call::Difference { dest, left, right, .. } => vec![dest, left, right],
             Call::List { left, right, .. } => vec![left, right],
-            Call::Frames { from, to, .. } => vec![from, to],
+            Call::Frames { from, to, .. } | Call::Same { from, to } => vec![from, to],
         }
     }
 

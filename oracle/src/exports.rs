@@ -51,6 +51,7 @@ extern "C" {
         written: *mut u32,
         total: *mut u32,
     ) -> u32;
+    fn ksk_same(block: *const u32, words: usize, from: u32, to: u32, same: *mut u32) -> u32;
     fn ksk_parse(
         line: *const u8,
         bytes: usize,
@@ -139,6 +140,10 @@ pub fn run_into(block: &mut [u32], inbox: &mut [u32], call: &Call, reply: &mut R
             Call::Size { version } => {
                 *x = STALE;
                 ksk_size(b, words, version, x)
+            }
+            Call::Same { from, to } => {
+                *x = STALE;
+                ksk_same(b, words, from, to, x)
             }
             Call::Held { version } => {
                 let mut minutes = u64::MAX;

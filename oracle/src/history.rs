@@ -100,7 +100,7 @@ impl Mix {
         }
     }
 
-    fn version(self, random: &mut Random) -> u32 {
+    pub fn version(self, random: &mut Random) -> u32 {
         if random.once_in(self.illegal) {
             random.pick(&[16, 17, 31, 255, u32::MAX])
         } else {
@@ -184,7 +184,7 @@ impl Mix {
             1 => random.pick(&EDGES),
             _ => 0,
         };
-        match random.below(9) {
+        match random.below(10) {
             0 => Call::Size { version },
             6 => Call::Held { version },
             7 | 8 => Call::HeldBetween { version, first: self.key(random), last: self.key(random) },
@@ -193,6 +193,7 @@ impl Mix {
                 let to = self.version(random);
                 Call::Frames { from: version, to, batch: random.word(), start, room: random.below(35 * n + 70) }
             }
+            9 => Call::Same { from: version, to: self.version(random) },
             _ => Call::Lookup { version, key: self.key(random) },
         }
     }

@@ -85,6 +85,10 @@ pub fn follow(maps: &mut [Map], call: &Call, reply: &Reply) -> Result<(), String
             same("rows", true, told.zip(&rows[from..]).all(|(told, row)| told == row))
         }
         Call::Frames { .. } => Ok(()),
+        Call::Same { from, to } => {
+            let entries = |version: u32| rows(&maps[version as usize], &Map::new());
+            same("same entries", [(entries(from) == entries(to)) as u32, 0], reply.fields)
+        }
         Call::Receive { version, ref line } => {
             let frame = Frame::parse(line).filter(|_| reply.fields[0] == 0);
             frame.and_then(|frame| frame_edit(&frame, version)).map(|call| edit(maps, &call));

@@ -4,6 +4,7 @@ pub mod batch;
 pub mod cases;
 pub mod checks;
 pub mod damage;
+pub mod drift;
 pub mod exhaustive;
 pub mod held;
 pub mod histories;

@@ -90,6 +90,7 @@ fn run(table: &mut Table, inbox: &mut [u32], call: &Call, reply: &mut Reply) -> 
             }
             reply.fields = [(LINE * written.len()) as u32, frames.len() as u32];
         }
+        Call::Same { from, to } => reply.fields = [walk::same(&tree(from), &tree(to))? as u32, 0],
         Call::Receive { version, ref line } => reply.fields = receive(table, inbox, version, line)?,
         _ => reply.fields = edit(table, call)?,
     }

@@ -145,11 +145,11 @@ static void write_line(uint32_t kind, uint32_t key)
     memcpy(line, text, KSK_LINE_BYTES);
 }
 
-/* A batch that puts 1 under the key, removes the key, and puts it again. */
+/* A batch that removes the key, puts 1 under it, and removes it again: a remove goes deepest, and on a full block the first edit is the only one that is done. */
 static void write_edits(uint32_t key)
 {
     for (uint32_t i = 0; i < 3; i++) {
-        edits[3 * i] = 1 + i % 2;
+        edits[3 * i] = 2 - i % 2;
         edits[3 * i + 1] = key;
         edits[3 * i + 2] = 1;
     }

@@ -1,13 +1,13 @@
 //! Compares the exported calls with the original and with documents 01 and 02. Usage: compare [seed] [times]
 
 use oracle::exports::{ANSWERS, NUMBERS};
-use oracle::parts::{batch, cases, damage, exhaustive, held, histories, ledger, limits, lines, link, room, sums, uneven, zeros, Compared, Effort};
+use oracle::parts::{batch, cases, damage, drift, exhaustive, held, histories, ledger, limits, lines, link, room, sums, uneven, zeros, Compared, Effort};
 use std::process::ExitCode;
 use std::sync::atomic::{AtomicUsize, Ordering};
 use std::thread;
 use std::time::Instant;
 
-const PARTS: [(&str, fn(Effort) -> Compared); 19] = [
+const PARTS: [(&str, fn(Effort) -> Compared); 20] = [
     ("worked cases of document 01", cases::worked),
     ("fresh blocks at every N", limits::fresh),
     ("inboxes: begin and missing", limits::inboxes),
@@ -23,6 +23,7 @@ const PARTS: [(&str, fn(Effort) -> Compared); 19] = [
     ("batches of edits", batch::all),
     ("uneven trees: edits", uneven::edits),
     ("uneven trees: listings and depth", uneven::depths),
+    ("same entries or not", drift::all),
     ("damaged and cut blocks and inboxes", damage::refusals),
     ("links with loss, repeats and delay", link::sent),
     ("minutes held: bounds and damaged sums", held::all),

@@ -27,7 +27,7 @@ fn change(random: &mut Random, words: &mut [u32]) {
     };
 }
 
-fn damage(random: &mut Random, words: &mut Vec<u32>) {
+pub fn damage(random: &mut Random, words: &mut Vec<u32>) {
     match random.below(12) {
         0 => words.truncate(random.below(words.len())),
         1 => words.extend((0..1 + random.below(8)).map(|_| 0)),
@@ -64,7 +64,7 @@ fn refused(call: &Call, block: &[u32], inbox: &[u32]) -> u32 {
     }
 }
 
-fn compare(block: &[u32], inbox: &[u32], call: &Call) -> Result<(), String> {
+pub fn compare(block: &[u32], inbox: &[u32], call: &Call) -> Result<(), String> {
     let (mut block_after, mut inbox_after) = (block.to_vec(), inbox.to_vec());
     let reply = exports::run(&mut block_after, &mut inbox_after, call);
     let (mut block_told, mut inbox_told) = (block.to_vec(), inbox.to_vec());
@@ -85,7 +85,7 @@ fn compare(block: &[u32], inbox: &[u32], call: &Call) -> Result<(), String> {
 }
 
 /// A sound block to damage: uneven trees, or what some edits have left.
-fn start(random: &mut Random, n: usize, mix: Mix) -> Result<Vec<u32>, String> {
+pub fn start(random: &mut Random, n: usize, mix: Mix) -> Result<Vec<u32>, String> {
     if random.once_in(2) {
         return Ok(uneven::table(random, n, mix.versions, 40).words());
     }

@@ -41,7 +41,7 @@ fn history(random: &mut Random, trio: &mut Trio, mix: Mix, calls: usize) -> Comp
     Ok(compared + closing(random, trio, mix)?)
 }
 
-/// At the end every version is listed whole, against another and the other way round, and asked for each key of a small range.
+/// At the end every version is listed whole and compared, against another and the other way round, and asked for each key of a small range.
 fn closing(random: &mut Random, trio: &mut Trio, mix: Mix) -> Compared {
     let room = 4 * trio.table.n;
     let mut calls = vec![];
@@ -51,6 +51,8 @@ fn closing(random: &mut Random, trio: &mut Trio, mix: Mix) -> Compared {
         calls.push(Call::Held { version });
         calls.push(Call::List { left: version, right: other, start: 0, room });
         calls.push(Call::List { left: other, right: version, start: 0, room });
+        calls.push(Call::Same { from: version, to: other });
+        calls.push(Call::Same { from: other, to: version });
         if let Keys::Below(bound @ ..=40) = mix.keys {
             calls.extend((0..=bound as u32).map(|key| Call::Lookup { version, key }));
             calls.extend((0..=bound as u32).map(|first| Call::HeldBetween { version, first, last: random.below(bound + 1) as u32 }));

@@ -18,7 +18,7 @@ pub enum Lean {
     Anyhow,
 }
 
-const LEANS: [Lean; 4] = [Lean::Left, Lean::Right, Lean::Zigzag, Lean::Anyhow];
+pub const LEANS: [Lean; 4] = [Lean::Left, Lean::Right, Lean::Zigzag, Lean::Anyhow];
 
 fn below_left(random: &mut Random, lean: Lean, keys: usize) -> usize {
     match lean {
@@ -29,17 +29,23 @@ fn below_left(random: &mut Random, lean: Lean, keys: usize) -> usize {
     }
 }
 
-/// A tree of the keys, which ascend; once in a while the lean is not followed.
-pub fn tree(random: &mut Random, supply: &mut Supply, keys: &[u32], lean: Lean, whim: usize) -> Tree {
-    if keys.is_empty() {
+/// A tree of the entries, whose keys ascend; once in a while the lean is not followed.
+pub fn holding(random: &mut Random, supply: &mut Supply, entries: &[(u32, u32)], lean: Lean, whim: usize) -> Tree {
+    if entries.is_empty() {
         return None;
     }
     let lean_here = if random.once_in(whim) { Lean::Anyhow } else { lean };
-    let at = below_left(random, lean_here, keys.len());
-    let left = tree(random, supply, &keys[..at], lean, whim);
-    let right = tree(random, supply, &keys[at + 1..], lean, whim);
-    let value = random.below(3) as u32;
-    supply.make(keys[at], value, left, right)
+    let at = below_left(random, lean_here, entries.len());
+    let left = holding(random, supply, &entries[..at], lean, whim);
+    let right = holding(random, supply, &entries[at + 1..], lean, whim);
+    let (key, value) = entries[at];
+    supply.make(key, value, left, right)
+}
+
+/// A tree of the keys, with small values.
+pub fn tree(random: &mut Random, supply: &mut Supply, keys: &[u32], lean: Lean, whim: usize) -> Tree {
+    let entries: Vec<(u32, u32)> = keys.iter().map(|&key| (key, random.below(3) as u32)).collect();
+    holding(random, supply, &entries, lean, whim)
 }
 
 /// Some keys below a bound, ascending.
