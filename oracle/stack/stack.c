@@ -145,7 +145,7 @@ static void write_line(uint32_t kind, uint32_t key)
     memcpy(line, text, KSK_LINE_BYTES);
 }
 
-/* A batch that removes the key, puts 1 under it, and removes it again: a remove goes deepest, and on a full block the first edit is the only one that is done. */
+/* A batch that removes the key, puts 1 under it, and removes it again: a remove goes deepest, and on a full block no edit after the first is reached. */
 static void write_edits(uint32_t key)
 {
     for (uint32_t i = 0; i < 3; i++) {

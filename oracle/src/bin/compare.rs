@@ -30,6 +30,9 @@ const PARTS: [(&str, fn(Effort) -> Compared); 20] = [
     ("ledgers", ledger::all),
 ];
 
+/// What a main thread usually has: the original recurses as deep as a chain of nodes.
+const STACK_BYTES: usize = 8 << 20;
+
 /// Tells how a part ended: what it compared and what failed.
 fn tell(name: &str, ended: Compared, seconds: f64) -> (u64, u64) {
     match ended {
@@ -60,7 +63,8 @@ fn compared(effort: Effort) -> (u64, u64) {
     };
     let workers = thread::available_parallelism().map_or(1, |n| n.get());
     thread::scope(|scope| {
-        let all: Vec<_> = (0..workers).map(|_| scope.spawn(work)).collect();
+        let one = |_| thread::Builder::new().stack_size(STACK_BYTES).spawn_scoped(scope, work).expect("a thread");
+        let all: Vec<_> = (0..workers).map(one).collect();
         all.into_iter().map(|one| one.join().expect("a part panicked")).fold((0, 0), |sum, one| (sum.0 + one.0, sum.1 + one.1))
     })
 }
