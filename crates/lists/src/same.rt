@@ -27,7 +27,7 @@ pub fn same(b: &[u32], from: u32, to: u32) -> Answer
     let Walked::Total(puts) = walk::walk(b, y, x, Wanted::Puts, 0, &mut words, true) else {
         return plain(TOO_DEEP);
     };
-    if puts != 0 {
+    if 0 < puts {
         return giving(0);
     }
     if size_at(b, x) != size_at(b, y) {

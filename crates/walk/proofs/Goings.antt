@@ -331,6 +331,7 @@ counted-le w r = go (wants w r)
     go true = omega arith
     go false = omega arith
 
+-- the turns that are left after a row of which k are wanted
 pub left-le : (o : Bool) (k f : ℕ) → turnsLeft o k f ≤ f
 left-le false k f = omega arith
 left-le true zero f = omega arith

@@ -1,5 +1,6 @@
 -- The checks come first; then the walk up to its first put, and where it met none the two sizes.
 use borrow.Author.Needs.{needs}
+use native.Mathlib.Omega.{arith}
 use Rattle.table.specs.Answers.{answerOf}
 use Rattle.table.proofs.Admitting.{two-versions, Admission, admission}
 use Rattle.table.proofs.Settling.{Source, source-named, read-asks}
@@ -72,7 +73,7 @@ giving-requires c κs = search needs
 returns-3 : tie.Need-returns-3
 returns-3 c =
     let p = c .before .before .before in
-    same-put (compared (walk-of p)) (answerOf (c .giving .result)) (p .puts .given .1) (c .before .if2 .taken) (c .giving .ensures)
+    same-put (compared (walk-of p)) (answerOf (c .giving .result)) (p .puts .given .1) (λ z. omega (arith, z, c .before .if2 .taken)) (c .giving .ensures)
 
 size-at-requires : tie.Need-size-at-requires
 size-at-requires c κs = read-asks (old (roots-of (walk-of (c .before .before))))
@@ -88,7 +89,7 @@ returns-4 c =
     let t = c .before .before in
     let s = t .before in
     let p = s .before .before .before in
-    same-unequal (compared (walk-of p)) (answerOf (c .giving2 .result)) (p .puts .given .1) (s .before .if2 .left) (s .size-at .ensures) (t .size-at2 .ensures) (c .before .if3 .taken) (c .giving2 .ensures)
+    same-unequal (compared (walk-of p)) (answerOf (c .giving2 .result)) (p .puts .given .1) (omega (arith, s .before .if2 .left)) (s .size-at .ensures) (t .size-at2 .ensures) (c .before .if3 .taken) (c .giving2 .ensures)
 
 giving-requires-3 : tie.Need-giving-requires-3
 giving-requires-3 c κs = search needs
@@ -98,7 +99,7 @@ returns-5 c =
     let t = c .before .before in
     let s = t .before in
     let p = s .before .before .before in
-    same-equal (compared (walk-of p)) (answerOf (c .giving3 .result)) (p .puts .given .1) (s .before .if2 .left) (s .size-at .ensures) (t .size-at2 .ensures) (c .before .if3 .left) (c .giving3 .ensures)
+    same-equal (compared (walk-of p)) (answerOf (c .giving3 .result)) (p .puts .given .1) (omega (arith, s .before .if2 .left)) (s .size-at .ensures) (t .size-at2 .ensures) (c .before .if3 .left) (c .giving3 .ensures)
 
 pub same-spec : {M : Type 1} → statement M
 same-spec =
