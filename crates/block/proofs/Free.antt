@@ -19,7 +19,7 @@ use Rattle.block.specs.Words.{FullWords}
 use Rattle.model.proofs.Bits.{below-all-set, at-clear}
 
 -- nodes that are taken are passed over
-skip : (occ : ℕ → Bool) (m a k : ℕ) → ((x : ℕ) → a ≤ x → x < a + m → occ x ≡ true) → freeFrom occ a (m + k) ≡ freeFrom occ (a + m) k
+pub skip : (occ : ℕ → Bool) (m a k : ℕ) → ((x : ℕ) → a ≤ x → x < a + m → occ x ≡ true) → freeFrom occ a (m + k) ≡ freeFrom occ (a + m) k
 unfolding freeFrom
 skip occ zero a k h = rw (zero-add, add-zero)
 skip occ (suc m) a k h =

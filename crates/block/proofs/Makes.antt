@@ -1,5 +1,5 @@
 -- A make: the lowest free node's bit is set and its words are written, and a reference to each child is counted.
-use mathlib.Core.Path.{_≡_, refl, ap, sym, _∙_}
+use mathlib.Core.Path.{_≡_, refl, ap, sym, subst, _∙_}
 use mathlib.Core.Logic.{_≢_}
 use Prim.Native.Nat.{ℕ, zero, suc, _+_, _*_, _/_, _≤_, _<_}
 use mathlib.Core.Bool.{true, false, true≢false}
@@ -9,14 +9,15 @@ use native.Mathlib.Omega.{arith}
 use native.Mathlib.Decide.{ℕ-discrete}
 use Rattle.model.specs.Heap.{Heap, Occupied, Named, sizeAt, sumAt, tree, hit, hits, refs, Linked, free, lowest}
 use Rattle.model.specs.Block.{word, room, width, nodeWord, nodeAt, occupiedAt, heap, Shaped}
-use Rattle.model.specs.Supply.{make}
+use Rattle.model.specs.Supply.{make, firstOf}
 use Rattle.model.specs.Moves.{Except, Made, Raised, Writing, Running}
 use Rattle.model.proofs.Counts.{hit-yes, hit-no}
 use Rattle.model.proofs.Growing.{named-occupied, came-made}
+use Rattle.block.specs.Low.{Low}
 use Rattle.block.specs.Outcome.{Outcome, nodeOf}
 use Rattle.block.specs.declared.Node.{Node}
 use Rattle.block.specs.declared.Made.the-variants.{At}
-use Rattle.block.proofs.Free.{found-cons, found-free}
+use Rattle.block.proofs.Free.{found-cons, found-free, below-lowest}
 use Rattle.block.proofs.Writes.{fields, Unoccupied, writing-except}
 
 -- How many references there can be
@@ -139,6 +140,14 @@ module _ {b e : List ℕ} {n k v l r : ℕ} (M : Making b e n k v l r) where
           let key = C .1 .same .key n ∙ A .1 .same .key n ∙ W .here 0 (omega arith) in
           let value = C .1 .same .value n ∙ A .1 .same .value n ∙ W .here 1 (omega arith) in
           record { named = named-occupied (heap g) n (made .occupied); came = came-made (M .running) (C .0) (M .lowest .first) (M .left) (M .right) made key value }
+
+      -- no node below it was free, and none is now
+      pub makes-low : Low g n
+      unfolding firstOf
+      makes-low = (
+        M .lowest .node .low,
+        λ m p q. made .except .occupied m (omega arith) ∙ below-lowest (occupiedAt b) 1 (room b) m p (subst (λ fs. m < firstOf fs) (sym (M .lowest .first)) q),
+      )
 
 -- a node's words as code reads them
 pub node-is : (b : List ℕ) (n : ℕ) → 1 ≤ n → _≡_ {A = Node} (record { key = word b (nodeAt b n); value = word b (nodeAt b n + 1); left = word b (nodeAt b n + 2); right = word b (nodeAt b n + 3) }) (nodeOf (heap b) n)

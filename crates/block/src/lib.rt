@@ -12,10 +12,11 @@ ghost use mathlib.Core.Bool.{true};
 ghost use Prim.Native.Nat.{ℕ, suc, _+_, _-_, _*_, _/_, _<_, _≤_};
 ghost use Rattle.model.specs.Heap.{Named, sizeAt, sumAt, tree, Linked, freeFrom, lowest};
 ghost use mathlib.Core.List.{[], _∷_};
-ghost use Rattle.model.specs.Moves.{Raised, Holding, FullBelow};
+ghost use Rattle.model.specs.Moves.{Raised, Holding};
 ghost use Rattle.model.specs.Block.{heap, room, width, nodeWord, occupiedAt, Shaped};
 ghost use Rattle.model.specs.Supply.{make};
 ghost use Rattle.block.specs.Words.{FullWords};
+ghost use Rattle.block.specs.Low.{Low};
 ghost use Rattle.block.specs.Outcome.{Outcome, isAbsent, nodeOf};
 
 // A node without its size and count.
@@ -129,12 +130,12 @@ fn eight_full(b: &[u32], w: u32) -> bool
     s & t == 4294967295
 }
 
-// Some of the first words that are all ones. Eight at a time: a large edit makes thousands of nodes, and each looks past those made before it.
-fn full_words(b: &[u32], m: u32) -> u32
-    requires { ⌜ Shaped (now b) × (m ≡ room (now b) / 32) ⌝ }
-    ensures { λ r. ⌜ (r ≤ m) × (freeFrom (occupiedAt (now (b .entry))) (suc (32 * r)) (room (now (b .entry)) - 32 * r) ≡ freeFrom (occupiedAt (now (b .entry))) 1 (room (now (b .entry)))) ⌝ }
+// Goes on from a word past some that are all ones, eight at a time: where much is occupied a search passes over many.
+fn full_words(b: &[u32], from: u32, m: u32) -> u32
+    requires { ⌜ Shaped (now b) × (m ≡ room (now b) / 32) × (from ≤ m) ⌝ }
+    ensures { λ r. ⌜ (r ≤ m) × (freeFrom (occupiedAt (now (b .entry))) (suc (32 * r)) (room (now (b .entry)) - 32 * r) ≡ freeFrom (occupiedAt (now (b .entry))) (suc (32 * from)) (room (now (b .entry)) - 32 * from)) ⌝ }
 {
-    let mut w = 0u32;
+    let mut w = from;
     while w + 8 <= m {
         if !eight_full(b, w) {
             return w;
@@ -144,13 +145,13 @@ fn full_words(b: &[u32], m: u32) -> u32
     w
 }
 
-// The lowest unoccupied node, or 0: the first word that is not all ones has it.
-fn lowest_free(b: &[u32]) -> u32
-    requires { ⌜ Shaped (now b) ⌝ }
+// The lowest unoccupied node, or 0: the first word that is not all ones has it. No node below `low` is free, so the search begins at its word.
+fn lowest_free(b: &[u32], low: u32) -> u32
+    requires { ⌜ Shaped (now b) × Low (now b) low ⌝ }
     ensures { λ r. ⌜ r ≡ lowest (heap (now (b .entry))) ⌝ }
 {
     let m = b[0] / 32;
-    let mut w = full_words(b, m);
+    let mut w = full_words(b, (low - 1) / 32, m);
     while w < m {
         let k = (17 + w) as usize;
         let x = b[k];
@@ -166,21 +167,23 @@ fn lowest_free(b: &[u32]) -> u32
 // Where a call's makes begin: every node below is occupied.
 pub fn makes_from(b: &[u32]) -> u32
     requires { ⌜ Shaped (now b) ⌝ }
-    ensures { λ r. ⌜ (1 ≤ r) × FullBelow (heap (now (b .entry))) r ⌝ }
+    ensures { λ r. ⌜ Low (now (b .entry)) r ⌝ }
 {
-    let n = lowest_free(b);
+    let n = lowest_free(b, 1);
     if n == 0 { b[0] + 1 } else { n }
 }
 
-// Makes the node of key, value, left and right. Nothing names it yet, so its count is 0.
-pub fn make(b: &mut [u32], key: u32, value: u32, left: u32, right: u32) -> Made
-    requires { ⌜ Holding (now b) (left ∷ right ∷ []) × Named (heap (now b)) left × Named (heap (now b)) right × (sizeAt (heap (now b)) left + sizeAt (heap (now b)) right < 1048576) ⌝ }
-    ensures { λ r. ⌜ Outcome (now (b .entry)) (now (b .exit)) (left ∷ right ∷ []) r (make key value (tree (heap (now (b .entry))) left) (tree (heap (now (b .entry))) right)) ⌝ }
+// Makes the node of key, value, left and right. Nothing names it yet, so its count is 0. `low` rises to it: a large edit makes thousands of nodes, and
+// none looks past those made before it.
+pub fn make(b: &mut [u32], low: &mut u32, key: u32, value: u32, left: u32, right: u32) -> Made
+    requires { ⌜ (Holding (now b) (left ∷ right ∷ []) × Named (heap (now b)) left × Named (heap (now b)) right × (sizeAt (heap (now b)) left + sizeAt (heap (now b)) right < 1048576)) × Low (now b) (now low) ⌝ }
+    ensures { λ r. ⌜ Outcome (now (b .entry)) (now (b .exit)) (left ∷ right ∷ []) r (make key value (tree (heap (now (b .entry))) left) (tree (heap (now (b .entry))) right)) × Low (now (b .exit)) (now (low .exit)) ⌝ }
 {
-    let n = lowest_free(b);
+    let n = lowest_free(b, *low);
     if n == 0 {
         return Made::Full;
     }
+    *low = n;
     let size = size_at(b, left) + size_at(b, right) + 1;
     let sum = long(value) + sum_at(b, left) + sum_at(b, right);
     take_bit(b, n);

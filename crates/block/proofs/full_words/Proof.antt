@@ -1,7 +1,6 @@
 -- Words of all ones have no free node, so the search goes on behind them.
 use borrow.Author.Needs.{needs}
 use native.Mathlib.Omega.{arith}
-use native.Mathlib.Nat.{sub-zero}
 use mathlib.Core.Path.{_≡_, refl, sym, _∙_}
 use mathlib.Core.Bool.{not}
 use borrow.Author.Tests.{not-false}
@@ -13,13 +12,13 @@ use Rattle.block.proofs.full_words.Statement.{statement}
 use Rattle.block.proofs.full_words.Tie as tie
 
 abbrev Inv-loop : tie.InvT-loop
-Inv-loop b m w₀ w = (w ≤ m) × (freeFrom (occupiedAt b) (suc (32 * w)) (room b - 32 * w) ≡ freeFrom (occupiedAt b) 1 (room b))
+Inv-loop b from m w₀ w = (w ≤ m) × (freeFrom (occupiedAt b) (suc (32 * w)) (room b - 32 * w) ≡ freeFrom (occupiedAt b) (suc (32 * from)) (room b - 32 * from))
 
 abbrev μ-loop : tie.MeasureT-loop
-μ-loop b m w₀ w = m - w
+μ-loop b from m w₀ w = m - w
 
 loop-holds : tie.Need-loop-holds Inv-loop μ-loop
-loop-holds c = (omega arith, rw sub-zero)
+loop-holds c = (c .before .pre .2, refl)
 
 add-loop : tie.Need-add-loop Inv-loop μ-loop
 add-loop c = search needs

@@ -2,28 +2,38 @@
 use native.Mathlib.Omega.{arith}
 use borrow.Author.Needs.{needs}
 use mathlib.Core.Path.{_≡_, refl, sym, ap, _∙_}
-use Prim.Native.Nat.{suc, _+_, _-_, _*_, _/_, _≤_}
+use Prim.Native.Nat.{suc, _+_, _-_, _*_, _/_, _<_, _≤_}
 use Rattle.model.specs.Block.{room, occupiedAt}
 use Rattle.model.specs.Supply.{firstOf}
 use Rattle.model.specs.Heap.{freeFrom}
 use Rattle.block.proofs.Free.{over-word, in-word, none-left}
+use Rattle.block.proofs.Low.{low-most, low-words}
 use Rattle.block.proofs.lowest_free.Statement.{statement}
 use Rattle.block.proofs.lowest_free.Tie as tie
 
 abbrev Inv-loop : tie.InvT-loop
-Inv-loop b m w₀ w = (m ≡ room b / 32) × (w ≤ m) × (freeFrom (occupiedAt b) (suc (32 * w)) (room b - 32 * w) ≡ freeFrom (occupiedAt b) 1 (room b))
+Inv-loop b low m w₀ w = (m ≡ room b / 32) × (w ≤ m) × (freeFrom (occupiedAt b) (suc (32 * w)) (room b - 32 * w) ≡ freeFrom (occupiedAt b) 1 (room b))
 
 abbrev μ-loop : tie.MeasureT-loop
-μ-loop b m w₀ w = m - w
+μ-loop b low m w₀ w = m - w
 
 shared-slice-read-m : tie.Need-shared-slice-read-m Inv-loop μ-loop
 shared-slice-read-m c = search needs
 
+sub-full-words : tie.Need-sub-full-words Inv-loop μ-loop
+sub-full-words c = c .before .before .pre .1 .0
+
 full-words-requires : tie.Need-full-words-requires Inv-loop μ-loop
-full-words-requires c κs = (c .before .before .pre, refl)
+full-words-requires c κs =
+    let p = c .before .before .pre in
+    (p .0, refl, omega (arith, low-most (c .before .before .args .low) (p .0) (p .1), p .0 .whole))
 
 loop-holds : tie.Need-loop-holds Inv-loop μ-loop
-loop-holds c = (refl, c .full-words .ensures .0, c .full-words .ensures .1)
+loop-holds c =
+    let st = c .before .before .before in
+    let low = st .args .low in
+    let from : 32 * ((low - 1) / 32) < low = omega (arith, st .pre .1 .0) in
+    (refl, c .full-words .ensures .0, c .full-words .ensures .1 ∙ low-words low ((low - 1) / 32) (st .pre .0) (st .pre .1) from)
 
 add-k : tie.Need-add-k Inv-loop μ-loop
 add-k c = search needs
@@ -51,7 +61,7 @@ returns c =
     let st = c .before .before .before .before .before .before .before in
     let at = c .before .before .before .loop in
     let fits = c .before .shared-slice-known3 .given (17 + at .w) in
-    sym (in-word (st .args .b .now) (at .w) (omega arith) (st .pre .whole) (omega arith) (c .if1 .taken)) ∙ ap firstOf (at .inv .2)
+    sym (in-word (st .args .b .now) (at .w) (omega arith) (st .pre .0 .whole) (omega arith) (c .if1 .taken)) ∙ ap firstOf (at .inv .2)
 
 add-w : tie.Need-add-w Inv-loop μ-loop
 add-w c = search needs
@@ -64,7 +74,7 @@ loop-again c =
     let st = c .before .before .before .before .before .before .before in
     let at = c .before .before .before .loop in
     let fits = c .before .shared-slice-known3 .given (17 + at .w) in
-    (at .inv .0, omega arith, sym (over-word (st .args .b .now) (at .w) (omega arith) (st .pre .whole) (omega arith) (c .if1 .left)) ∙ at .inv .2)
+    (at .inv .0, omega arith, sym (over-word (st .args .b .now) (at .w) (omega arith) (st .pre .0 .whole) (omega arith) (c .if1 .left)) ∙ at .inv .2)
 
 returns-2 : tie.Need-returns-2 Inv-loop μ-loop
 returns-2 c =
@@ -80,6 +90,7 @@ lowest-free-spec =
     Inv-loop
     μ-loop
     shared-slice-read-m
+    sub-full-words
     full-words-requires
     loop-holds
     add-k

@@ -4,11 +4,12 @@ use borrow.Author.Needs.{needs}
 use mathlib.Core.Path.{sym, _∙_}
 use Rattle.model.specs.Block.{room, occupiedAt}
 use Rattle.block.proofs.Free.{found-none, none-free, below-lowest}
+use Rattle.block.proofs.Low.{low-first}
 use Rattle.block.proofs.makes_from.Statement.{statement}
 use Rattle.block.proofs.makes_from.Tie as tie
 
 lowest-free-requires : tie.Need-lowest-free-requires
-lowest-free-requires c κs = search needs
+lowest-free-requires c κs = (c .before .pre, low-first (c .before .args .b .now))
 
 shared-slice-read-result : tie.Need-shared-slice-read-result
 shared-slice-read-result c = search needs
