@@ -22,47 +22,47 @@ use Rattle.block.proofs.Levels.{above-stop, above-last, above-last-right}
 use Rattle.tree.proofs.Paths.{both, down-left, down-right}
 use Rattle.tree.proofs.Inserts.{Insertion, insert-none-asks, insert-none, insert-here, insert-left, insert-right, insert-left-asks, insert-right-asks}
 
-abbrev μ-insert : Measures 1 insert-kinds.ps ℕ
-μ-insert κs a = sizeAt (heap (a .0 .now)) (a .1 .1 .0)
+abbrev μ-insert : Measures 2 insert-kinds.ps ℕ
+μ-insert κs a = sizeAt (heap (a .0 .now)) (a .1 .1 .1 .0)
 
-abbrev insert-at : ℕ → In 1 insert-kinds.ps
-insert-at t = and 1 insert-kinds.ps (is 1 insert-kinds.ps μ-insert t) insert.Pre
+abbrev insert-at : ℕ → In 2 insert-kinds.ps
+insert-at t = and 2 insert-kinds.ps (is 2 insert-kinds.ps μ-insert t) insert.Pre
 
-abbrev insert-below : ℕ → In 1 insert-kinds.ps
-insert-below t = and 1 insert-kinds.ps (falls 1 insert-kinds.ps _<_ μ-insert t) insert.Pre
+abbrev insert-below : ℕ → In 2 insert-kinds.ps
+insert-below t = and 2 insert-kinds.ps (falls 2 insert-kinds.ps _<_ μ-insert t) insert.Pre
 
-abbrev calls : (t : ℕ) → In 1 make-kinds.ps × Out 1 make-kinds.ps make-kinds.r × In 1 take-apart-kinds.ps × Out 1 take-apart-kinds.ps take-apart-kinds.r × In 1 remake-kinds.ps × Out 1 remake-kinds.ps remake-kinds.r × In 1 insert-kinds.ps × Out 1 insert-kinds.ps insert-kinds.r
+abbrev calls : (t : ℕ) → In 2 make-kinds.ps × Out 2 make-kinds.ps make-kinds.r × In 2 take-apart-kinds.ps × Out 2 take-apart-kinds.ps take-apart-kinds.r × In 2 remake-kinds.ps × Out 2 remake-kinds.ps remake-kinds.r × In 2 insert-kinds.ps × Out 2 insert-kinds.ps insert-kinds.r
 calls t = (make-reads.Asked, make-reads.Learnt, take-apart-reads.Asked, take-apart-reads.Learnt, remake-reads.Asked, remake-reads.Learnt, insert-below t, insert.Post)
 
-level : (t : ℕ) (c : insert-lts.After-take-apart (calls t) (insert-at t) insert.Post) → let a = c .before .before .before .before .args in Insertion (a .b .now) (c .take-apart .last .0) (a .n) (c .take-apart .result) (a .fresh) (a .key) (a .value)
+level : (t : ℕ) (c : insert-lts.After-take-apart (calls t) (insert-at t) insert.Post) → let a = c .before .before .before .before .before .args in Insertion (a .b .now) (c .take-apart .last .0) (a .n) (c .take-apart .result) (a .fresh) (a .key) (a .value)
 level t c =
-    let st = c .before .before .before .before in
-    let o = link-occupied (heap (st .args .b .now)) (st .args .n) (st .pre .1 .1) (c .before .before .if1 .left) in
-    record { path = record { level = record { running = st .pre .1 .0 .running; occupied = o; is = c .take-apart .ensures .0; apart = c .take-apart .ensures .1 }; holding = st .pre .1 .0; small = st .pre .1 .2 } }
+    let st = c .before .before .before .before .before in
+    let o = link-occupied (heap (st .args .b .now)) (st .args .n) (st .pre .1 .0 .1) (c .before .before .before .if1 .left) in
+    record { path = record { level = record { running = st .pre .1 .0 .0 .running; occupied = o; is = c .take-apart .ensures .0; apart = c .take-apart .ensures .1 }; holding = st .pre .1 .0 .0; small = st .pre .1 .0 .2 } }
 
 insert-make-requires : (t : ℕ) → insert-lts.Need-make-requires (calls t) (insert-at t) insert.Post
-insert-make-requires t c κs = let st = c .before .before .before in insert-none-asks (st .args .n) (st .pre .1 .0)
+insert-make-requires t c κs = let st = c .before .before .before .before in (insert-none-asks (st .args .n) (st .pre .1 .0 .0), c .before .before .before .before .pre .1 .1)
 
 insert-same-length : (t : ℕ) → insert-lts.Need-same-length (calls t) (insert-at t) insert.Post
 insert-same-length t c = search needs
 
 insert-returns : (t : ℕ) → insert-lts.Need-returns (calls t) (insert-at t) insert.Post
-insert-returns t c = let a = c .before .before .before .before .before .before .args in insert-none (a .fresh) (a .n) (a .key) (a .value) (c .before .before .before .before .if1 .taken) (c .before .before .make .ensures)
+insert-returns t c = let a = c .before .before .before .before .before .before .before .args in (insert-none (a .fresh) (a .n) (a .key) (a .value) (c .before .before .before .before .before .if1 .taken) (c .before .before .make .ensures .0), c .before .before .make .ensures .1)
 
 insert-take-apart-requires : (t : ℕ) → insert-lts.Need-take-apart-requires (calls t) (insert-at t) insert.Post
-insert-take-apart-requires t c κs = let st = c .before .before .before in (st .pre .1 .0 .running, link-occupied (heap (st .args .b .now)) (st .args .n) (st .pre .1 .1) (c .before .if1 .left))
+insert-take-apart-requires t c κs = let st = c .before .before .before .before in ((st .pre .1 .0 .0 .running, link-occupied (heap (st .args .b .now)) (st .args .n) (st .pre .1 .0 .1) (c .before .before .if1 .left)), c .before .before .before .before .pre .1 .1)
 
 insert-remake-requires : (t : ℕ) → insert-lts.Need-remake-requires (calls t) (insert-at t) insert.Post
-insert-remake-requires t c κs = both (level t (c .before .before .before .before .before) .path)
+insert-remake-requires t c κs = (both (level t (c .before .before .before .before .before .before) .path), c .before .before .before .before .before .before .take-apart .ensures .2)
 
 insert-same-length-2 : (t : ℕ) → insert-lts.Need-same-length-2 (calls t) (insert-at t) insert.Post
 insert-same-length-2 t c = search needs
 
 insert-returns-2 : (t : ℕ) → insert-lts.Need-returns-2 (calls t) (insert-at t) insert.Post
-insert-returns-2 t c = insert-here (level t (c .before .before .before .before .before .before .before .before)) (c .before .before .before .before .if2 .taken) (c .before .before .remake .ensures)
+insert-returns-2 t c = (insert-here (level t (c .before .before .before .before .before .before .before .before .before)) (c .before .before .before .before .before .if2 .taken) (c .before .before .remake .ensures .0), c .before .before .remake .ensures .1)
 
 insert-insert-requires : (t : ℕ) → insert-lts.Need-insert-requires (calls t) (insert-at t) insert.Post
-insert-insert-requires t c κs = down-left (level t (c .before .before .before .before .before .before .before) .path) (c .before .before .before .before .before .before .before .before .before .before .before .pre .0)
+insert-insert-requires t c κs = let p = down-left (level t (c .before .before .before .before .before .before .before .before) .path) (c .before .before .before .before .before .before .before .before .before .before .before .before .before .pre .0) in (p .0, (p .1, c .before .before .before .before .before .before .before .before .take-apart .ensures .2))
 
 insert-enum-known-left : (t : ℕ) → insert-lts.Need-enum-known-left (calls t) (insert-at t) insert.Post
 insert-enum-known-left t c = search needs
@@ -74,19 +74,19 @@ insert-same-length-3 : (t : ℕ) → insert-lts.Need-same-length-3 (calls t) (in
 insert-same-length-3 t c = search needs
 
 insert-returns-3 : (t : ℕ) → insert-lts.Need-returns-3 (calls t) (insert-at t) insert.Post
-insert-returns-3 t c = above-stop (insert-left (level t (c .before .before .before .before .before .before .before .before .before .before .before .before)) (c .before .before .before .before .before .before .if3 .taken)) (told _ _ (c .enum-told .given .1) (c .before .before .before .before .insert .ensures))
+insert-returns-3 t c = (above-stop (insert-left (level t (c .before .before .before .before .before .before .before .before .before .before .before .before .before)) (c .before .before .before .before .before .before .before .if3 .taken)) (told _ _ (c .enum-told .given .1) (c .before .before .before .before .insert .ensures .0)), c .before .before .before .before .insert .ensures .1)
 
 insert-remake-requires-2 : (t : ℕ) → insert-lts.Need-remake-requires-2 (calls t) (insert-at t) insert.Post
-insert-remake-requires-2 t c κs = insert-left-asks (level t (c .before .before .before .before .before .before .before .before .before .before .before .before .before .before)) (told _ _ (c .before .before .left .given .1) (c .before .before .before .before .before .before .insert .ensures))
+insert-remake-requires-2 t c κs = (insert-left-asks (level t (c .before .before .before .before .before .before .before .before .before .before .before .before .before .before .before .before)) (told _ _ (c .before .before .before .left .given .1) (c .before .before .before .before .before .before .before .insert .ensures .0)), c .before .before .before .before .before .before .before .insert .ensures .1)
 
 insert-same-length-4 : (t : ℕ) → insert-lts.Need-same-length-4 (calls t) (insert-at t) insert.Post
 insert-same-length-4 t c = search needs
 
 insert-returns-4 : (t : ℕ) → insert-lts.Need-returns-4 (calls t) (insert-at t) insert.Post
-insert-returns-4 t c = above-last (insert-left (level t (c .before .before .before .before .before .before .before .before .before .before .before .before .before .before .before .before .before)) (c .before .before .before .before .before .before .before .before .before .before .before .if3 .taken)) (told _ _ (c .before .before .before .before .before .left .given .1) (c .before .before .before .before .before .before .before .before .before .insert .ensures)) (c .before .before .remake2 .ensures)
+insert-returns-4 t c = (above-last (insert-left (level t (c .before .before .before .before .before .before .before .before .before .before .before .before .before .before .before .before .before .before .before)) (c .before .before .before .before .before .before .before .before .before .before .before .before .before .if3 .taken)) (told _ _ (c .before .before .before .before .before .before .left .given .1) (c .before .before .before .before .before .before .before .before .before .before .insert .ensures .0)) (c .before .before .remake2 .ensures .0), c .before .before .remake2 .ensures .1)
 
 insert-insert-requires-2 : (t : ℕ) → insert-lts.Need-insert-requires-2 (calls t) (insert-at t) insert.Post
-insert-insert-requires-2 t c κs = down-right (level t (c .before .before .before .before .before .before .before) .path) (c .before .before .before .before .before .before .before .before .before .before .before .pre .0)
+insert-insert-requires-2 t c κs = let p = down-right (level t (c .before .before .before .before .before .before .before .before) .path) (c .before .before .before .before .before .before .before .before .before .before .before .before .before .pre .0) in (p .0, (p .1, c .before .before .before .before .before .before .before .before .take-apart .ensures .2))
 
 insert-enum-known-right : (t : ℕ) → insert-lts.Need-enum-known-right (calls t) (insert-at t) insert.Post
 insert-enum-known-right t c = search needs
@@ -98,16 +98,16 @@ insert-same-length-5 : (t : ℕ) → insert-lts.Need-same-length-5 (calls t) (in
 insert-same-length-5 t c = search needs
 
 insert-returns-5 : (t : ℕ) → insert-lts.Need-returns-5 (calls t) (insert-at t) insert.Post
-insert-returns-5 t c = above-stop (insert-right (level t (c .before .before .before .before .before .before .before .before .before .before .before .before)) (c .before .before .before .before .before .before .before .before .if2 .left) (c .before .before .before .before .before .before .if3 .left)) (told _ _ (c .enum-told2 .given .1) (c .before .before .before .before .insert2 .ensures))
+insert-returns-5 t c = (above-stop (insert-right (level t (c .before .before .before .before .before .before .before .before .before .before .before .before .before)) (c .before .before .before .before .before .before .before .before .before .if2 .left) (c .before .before .before .before .before .before .before .if3 .left)) (told _ _ (c .enum-told2 .given .1) (c .before .before .before .before .insert2 .ensures .0)), c .before .before .before .before .insert2 .ensures .1)
 
 insert-remake-requires-3 : (t : ℕ) → insert-lts.Need-remake-requires-3 (calls t) (insert-at t) insert.Post
-insert-remake-requires-3 t c κs = insert-right-asks (level t (c .before .before .before .before .before .before .before .before .before .before .before .before .before .before)) (told _ _ (c .before .before .right .given .1) (c .before .before .before .before .before .before .insert2 .ensures))
+insert-remake-requires-3 t c κs = (insert-right-asks (level t (c .before .before .before .before .before .before .before .before .before .before .before .before .before .before .before .before)) (told _ _ (c .before .before .before .right .given .1) (c .before .before .before .before .before .before .before .insert2 .ensures .0)), c .before .before .before .before .before .before .before .insert2 .ensures .1)
 
 insert-same-length-6 : (t : ℕ) → insert-lts.Need-same-length-6 (calls t) (insert-at t) insert.Post
 insert-same-length-6 t c = search needs
 
 insert-returns-6 : (t : ℕ) → insert-lts.Need-returns-6 (calls t) (insert-at t) insert.Post
-insert-returns-6 t c = above-last-right (insert-right (level t (c .before .before .before .before .before .before .before .before .before .before .before .before .before .before .before .before .before)) (c .before .before .before .before .before .before .before .before .before .before .before .before .before .if2 .left) (c .before .before .before .before .before .before .before .before .before .before .before .if3 .left)) (told _ _ (c .before .before .before .before .before .right .given .1) (c .before .before .before .before .before .before .before .before .before .insert2 .ensures)) (c .before .before .remake3 .ensures)
+insert-returns-6 t c = (above-last-right (insert-right (level t (c .before .before .before .before .before .before .before .before .before .before .before .before .before .before .before .before .before .before .before)) (c .before .before .before .before .before .before .before .before .before .before .before .before .before .before .before .if2 .left) (c .before .before .before .before .before .before .before .before .before .before .before .before .before .if3 .left)) (told _ _ (c .before .before .before .before .before .before .right .given .1) (c .before .before .before .before .before .before .before .before .before .before .insert2 .ensures .0)) (c .before .before .remake3 .ensures .0), c .before .before .remake3 .ensures .1)
 
 pub +insert-spec : {M : Type 1} → statement M
 +insert-spec = close μ-insert λ t. insert-lts.spec (calls t)

@@ -22,41 +22,41 @@ use Rattle.block.proofs.Levels.{above-stop, above-last, above-last-right}
 use Rattle.tree.proofs.Paths.{both, down-left, down-right}
 use Rattle.tree.proofs.Removes.{Removing, remove-none, remove-here, remove-left, remove-right, remove-left-asks, remove-right-asks}
 
-abbrev μ-remove : Measures 1 remove-kinds.ps ℕ
-μ-remove κs a = sizeAt (heap (a .0 .now)) (a .1 .0)
+abbrev μ-remove : Measures 2 remove-kinds.ps ℕ
+μ-remove κs a = sizeAt (heap (a .0 .now)) (a .1 .1 .0)
 
-abbrev remove-at : ℕ → In 1 remove-kinds.ps
-remove-at t = and 1 remove-kinds.ps (is 1 remove-kinds.ps μ-remove t) remove.Pre
+abbrev remove-at : ℕ → In 2 remove-kinds.ps
+remove-at t = and 2 remove-kinds.ps (is 2 remove-kinds.ps μ-remove t) remove.Pre
 
-abbrev remove-below : ℕ → In 1 remove-kinds.ps
-remove-below t = and 1 remove-kinds.ps (falls 1 remove-kinds.ps _<_ μ-remove t) remove.Pre
+abbrev remove-below : ℕ → In 2 remove-kinds.ps
+remove-below t = and 2 remove-kinds.ps (falls 2 remove-kinds.ps _<_ μ-remove t) remove.Pre
 
-abbrev calls : (t : ℕ) → In 1 take-apart-kinds.ps × Out 1 take-apart-kinds.ps take-apart-kinds.r × In 1 without-key-kinds.ps × Out 1 without-key-kinds.ps without-key-kinds.r × In 1 remove-kinds.ps × Out 1 remove-kinds.ps remove-kinds.r × In 1 balanced-kinds.ps × Out 1 balanced-kinds.ps balanced-kinds.r
+abbrev calls : (t : ℕ) → In 2 take-apart-kinds.ps × Out 2 take-apart-kinds.ps take-apart-kinds.r × In 2 without-key-kinds.ps × Out 2 without-key-kinds.ps without-key-kinds.r × In 2 remove-kinds.ps × Out 2 remove-kinds.ps remove-kinds.r × In 2 balanced-kinds.ps × Out 2 balanced-kinds.ps balanced-kinds.r
 calls t = (take-apart-reads.Asked, take-apart-reads.Learnt, without-key-reads.Asked, without-key-reads.Learnt, remove-below t, remove.Post, balanced-reads.Asked, balanced-reads.Learnt)
 
-level : (t : ℕ) (c : remove-lts.After-take-apart (calls t) (remove-at t) remove.Post) → let a = c .before .before .before .before .args in Removing (a .b .now) (c .take-apart .last .0) (a .n) (c .take-apart .result) (a .key)
+level : (t : ℕ) (c : remove-lts.After-take-apart (calls t) (remove-at t) remove.Post) → let a = c .before .before .before .before .before .args in Removing (a .b .now) (c .take-apart .last .0) (a .n) (c .take-apart .result) (a .key)
 level t c =
-    let st = c .before .before .before .before in
-    let o = link-occupied (heap (st .args .b .now)) (st .args .n) (st .pre .1 .1) (c .before .before .if1 .left) in
-    record { path = record { level = record { running = st .pre .1 .0 .running; occupied = o; is = c .take-apart .ensures .0; apart = c .take-apart .ensures .1 }; holding = st .pre .1 .0; small = st .pre .1 .2 } }
+    let st = c .before .before .before .before .before in
+    let o = link-occupied (heap (st .args .b .now)) (st .args .n) (st .pre .1 .0 .1) (c .before .before .before .if1 .left) in
+    record { path = record { level = record { running = st .pre .1 .0 .0 .running; occupied = o; is = c .take-apart .ensures .0; apart = c .take-apart .ensures .1 }; holding = st .pre .1 .0 .0; small = st .pre .1 .0 .2 } }
 
 remove-returns : (t : ℕ) → remove-lts.Need-returns (calls t) (remove-at t) remove.Post
-remove-returns t c = let st = c .before .before in remove-none (st .args .n) (st .args .key) (c .if1 .taken) (st .pre .1 .0 .running)
+remove-returns t c = let st = c .before .before in (remove-none (st .args .n) (st .args .key) (c .if1 .taken) (st .pre .1 .0 .0 .running), c .before .before .pre .1 .1)
 
 remove-take-apart-requires : (t : ℕ) → remove-lts.Need-take-apart-requires (calls t) (remove-at t) remove.Post
-remove-take-apart-requires t c κs = let st = c .before .before .before in (st .pre .1 .0 .running, link-occupied (heap (st .args .b .now)) (st .args .n) (st .pre .1 .1) (c .before .if1 .left))
+remove-take-apart-requires t c κs = let st = c .before .before .before .before in ((st .pre .1 .0 .0 .running, link-occupied (heap (st .args .b .now)) (st .args .n) (st .pre .1 .0 .1) (c .before .before .if1 .left)), c .before .before .before .before .pre .1 .1)
 
 remove-without-key-requires : (t : ℕ) → remove-lts.Need-without-key-requires (calls t) (remove-at t) remove.Post
-remove-without-key-requires t c κs = both (level t (c .before .before .before .before .before) .path)
+remove-without-key-requires t c κs = (both (level t (c .before .before .before .before .before .before) .path), c .before .before .before .before .before .before .take-apart .ensures .2)
 
 remove-same-length : (t : ℕ) → remove-lts.Need-same-length (calls t) (remove-at t) remove.Post
 remove-same-length t c = search needs
 
 remove-returns-2 : (t : ℕ) → remove-lts.Need-returns-2 (calls t) (remove-at t) remove.Post
-remove-returns-2 t c = remove-here (level t (c .before .before .before .before .before .before .before .before)) (c .before .before .before .before .if2 .taken) (c .before .before .without-key .ensures)
+remove-returns-2 t c = (remove-here (level t (c .before .before .before .before .before .before .before .before .before)) (c .before .before .before .before .before .if2 .taken) (c .before .before .without-key .ensures .0), c .before .before .without-key .ensures .1)
 
 remove-remove-requires : (t : ℕ) → remove-lts.Need-remove-requires (calls t) (remove-at t) remove.Post
-remove-remove-requires t c κs = down-left (level t (c .before .before .before .before .before .before .before) .path) (c .before .before .before .before .before .before .before .before .before .before .before .pre .0)
+remove-remove-requires t c κs = let p = down-left (level t (c .before .before .before .before .before .before .before .before) .path) (c .before .before .before .before .before .before .before .before .before .before .before .before .before .pre .0) in (p .0, (p .1, c .before .before .before .before .before .before .before .before .take-apart .ensures .2))
 
 remove-enum-known-left : (t : ℕ) → remove-lts.Need-enum-known-left (calls t) (remove-at t) remove.Post
 remove-enum-known-left t c = search needs
@@ -68,19 +68,19 @@ remove-same-length-2 : (t : ℕ) → remove-lts.Need-same-length-2 (calls t) (re
 remove-same-length-2 t c = search needs
 
 remove-returns-3 : (t : ℕ) → remove-lts.Need-returns-3 (calls t) (remove-at t) remove.Post
-remove-returns-3 t c = above-stop (remove-left (level t (c .before .before .before .before .before .before .before .before .before .before .before .before)) (c .before .before .before .before .before .before .if3 .taken)) (told _ _ (c .enum-told .given .1) (c .before .before .before .before .remove .ensures))
+remove-returns-3 t c = (above-stop (remove-left (level t (c .before .before .before .before .before .before .before .before .before .before .before .before .before)) (c .before .before .before .before .before .before .before .if3 .taken)) (told _ _ (c .enum-told .given .1) (c .before .before .before .before .remove .ensures .0)), c .before .before .before .before .remove .ensures .1)
 
 remove-balanced-requires : (t : ℕ) → remove-lts.Need-balanced-requires (calls t) (remove-at t) remove.Post
-remove-balanced-requires t c κs = remove-left-asks (level t (c .before .before .before .before .before .before .before .before .before .before .before .before .before .before)) (told _ _ (c .before .before .left .given .1) (c .before .before .before .before .before .before .remove .ensures))
+remove-balanced-requires t c κs = (remove-left-asks (level t (c .before .before .before .before .before .before .before .before .before .before .before .before .before .before .before .before)) (told _ _ (c .before .before .before .left .given .1) (c .before .before .before .before .before .before .before .remove .ensures .0)), c .before .before .before .before .before .before .before .remove .ensures .1)
 
 remove-same-length-3 : (t : ℕ) → remove-lts.Need-same-length-3 (calls t) (remove-at t) remove.Post
 remove-same-length-3 t c = search needs
 
 remove-returns-4 : (t : ℕ) → remove-lts.Need-returns-4 (calls t) (remove-at t) remove.Post
-remove-returns-4 t c = above-last (remove-left (level t (c .before .before .before .before .before .before .before .before .before .before .before .before .before .before .before .before .before)) (c .before .before .before .before .before .before .before .before .before .before .before .if3 .taken)) (told _ _ (c .before .before .before .before .before .left .given .1) (c .before .before .before .before .before .before .before .before .before .remove .ensures)) (c .before .before .balanced .ensures)
+remove-returns-4 t c = (above-last (remove-left (level t (c .before .before .before .before .before .before .before .before .before .before .before .before .before .before .before .before .before .before .before)) (c .before .before .before .before .before .before .before .before .before .before .before .before .before .if3 .taken)) (told _ _ (c .before .before .before .before .before .before .left .given .1) (c .before .before .before .before .before .before .before .before .before .before .remove .ensures .0)) (c .before .before .balanced .ensures .0), c .before .before .balanced .ensures .1)
 
 remove-remove-requires-2 : (t : ℕ) → remove-lts.Need-remove-requires-2 (calls t) (remove-at t) remove.Post
-remove-remove-requires-2 t c κs = down-right (level t (c .before .before .before .before .before .before .before) .path) (c .before .before .before .before .before .before .before .before .before .before .before .pre .0)
+remove-remove-requires-2 t c κs = let p = down-right (level t (c .before .before .before .before .before .before .before .before) .path) (c .before .before .before .before .before .before .before .before .before .before .before .before .before .pre .0) in (p .0, (p .1, c .before .before .before .before .before .before .before .before .take-apart .ensures .2))
 
 remove-enum-known-right : (t : ℕ) → remove-lts.Need-enum-known-right (calls t) (remove-at t) remove.Post
 remove-enum-known-right t c = search needs
@@ -92,16 +92,16 @@ remove-same-length-4 : (t : ℕ) → remove-lts.Need-same-length-4 (calls t) (re
 remove-same-length-4 t c = search needs
 
 remove-returns-5 : (t : ℕ) → remove-lts.Need-returns-5 (calls t) (remove-at t) remove.Post
-remove-returns-5 t c = above-stop (remove-right (level t (c .before .before .before .before .before .before .before .before .before .before .before .before)) (c .before .before .before .before .before .before .before .before .if2 .left) (c .before .before .before .before .before .before .if3 .left)) (told _ _ (c .enum-told2 .given .1) (c .before .before .before .before .remove2 .ensures))
+remove-returns-5 t c = (above-stop (remove-right (level t (c .before .before .before .before .before .before .before .before .before .before .before .before .before)) (c .before .before .before .before .before .before .before .before .before .if2 .left) (c .before .before .before .before .before .before .before .if3 .left)) (told _ _ (c .enum-told2 .given .1) (c .before .before .before .before .remove2 .ensures .0)), c .before .before .before .before .remove2 .ensures .1)
 
 remove-balanced-requires-2 : (t : ℕ) → remove-lts.Need-balanced-requires-2 (calls t) (remove-at t) remove.Post
-remove-balanced-requires-2 t c κs = remove-right-asks (level t (c .before .before .before .before .before .before .before .before .before .before .before .before .before .before)) (told _ _ (c .before .before .right .given .1) (c .before .before .before .before .before .before .remove2 .ensures))
+remove-balanced-requires-2 t c κs = (remove-right-asks (level t (c .before .before .before .before .before .before .before .before .before .before .before .before .before .before .before .before)) (told _ _ (c .before .before .before .right .given .1) (c .before .before .before .before .before .before .before .remove2 .ensures .0)), c .before .before .before .before .before .before .before .remove2 .ensures .1)
 
 remove-same-length-5 : (t : ℕ) → remove-lts.Need-same-length-5 (calls t) (remove-at t) remove.Post
 remove-same-length-5 t c = search needs
 
 remove-returns-6 : (t : ℕ) → remove-lts.Need-returns-6 (calls t) (remove-at t) remove.Post
-remove-returns-6 t c = above-last-right (remove-right (level t (c .before .before .before .before .before .before .before .before .before .before .before .before .before .before .before .before .before)) (c .before .before .before .before .before .before .before .before .before .before .before .before .before .if2 .left) (c .before .before .before .before .before .before .before .before .before .before .before .if3 .left)) (told _ _ (c .before .before .before .before .before .right .given .1) (c .before .before .before .before .before .before .before .before .before .remove2 .ensures)) (c .before .before .balanced2 .ensures)
+remove-returns-6 t c = (above-last-right (remove-right (level t (c .before .before .before .before .before .before .before .before .before .before .before .before .before .before .before .before .before .before .before)) (c .before .before .before .before .before .before .before .before .before .before .before .before .before .before .before .if2 .left) (c .before .before .before .before .before .before .before .before .before .before .before .before .before .if3 .left)) (told _ _ (c .before .before .before .before .before .before .right .given .1) (c .before .before .before .before .before .before .before .before .before .before .remove2 .ensures .0)) (c .before .before .balanced2 .ensures .0), c .before .before .balanced2 .ensures .1)
 
 pub +remove-spec : {M : Type 1} → statement M
 +remove-spec = close μ-remove λ t. remove-lts.spec (calls t)

@@ -7,14 +7,14 @@ use Rattle.block.proofs.Outcomes.{told}
 use Rattle.block.proofs.Levels.{Level, read-left, read-right, read-size, above-stop, above-last}
 use Rattle.tree.proofs.Turns.{swapped, Heavy, together, left-asks, left-asks-2, left-once, left-inner, left-twice}
 
-level : (c : tie.After-take-apart) → let a = c .before .before .before .args in Level (a .b .now) (c .take-apart .last .0) (a .right) (c .take-apart .result)
+level : (c : tie.After-take-apart) → let a = c .before .before .before .before .args in Level (a .b .now) (c .take-apart .last .0) (a .right) (c .take-apart .result)
 level c =
-    let p = c .before .before .before .pre in
+    let p = c .before .before .before .before .pre .0 in
     record { running = p .0 .running; occupied = p .2; is = c .take-apart .ensures .0; apart = c .take-apart .ensures .1 }
 
-heavy : (c : tie.After-size-at2) → let a = c .before .before .before .before .before .before .before .before .before .args in Heavy (a .b .now) (c .before .before .before .before .before .before .take-apart .last .0) (a .key) (a .value) (a .right) (a .left) (c .before .before .before .before .before .before .take-apart .result) (c .before .before .size-at .result) (c .size-at2 .result)
+heavy : (c : tie.After-size-at2) → let a = c .before .before .before .before .before .before .before .before .before .before .args in Heavy (a .b .now) (c .before .before .before .before .before .before .take-apart .last .0) (a .key) (a .value) (a .right) (a .left) (c .before .before .before .before .before .before .take-apart .result) (c .before .before .size-at .result) (c .size-at2 .result)
 heavy c =
-    let p = c .before .before .before .before .before .before .before .before .before .pre in
+    let p = c .before .before .before .before .before .before .before .before .before .before .pre .0 in
     record {
       level = level (c .before .before .before .before .before .before);
       holding = swapped (p .0);
@@ -25,8 +25,8 @@ heavy c =
 
 take-apart-requires : tie.Need-take-apart-requires
 take-apart-requires c κs =
-    let st = c .before .before in
-    (st .pre .0 .running, st .pre .2)
+    let st = c .before .before .before in
+    ((st .pre .0 .0 .running, st .pre .0 .2), c .before .before .before .pre .1)
 
 size-at-requires : tie.Need-size-at-requires
 size-at-requires c κs =
@@ -35,7 +35,7 @@ size-at-requires c κs =
     (R .shaped, R .linked, read-left L)
 
 add-left-weight : tie.Need-add-left-weight
-add-left-weight c = omega (arith, c .size-at .ensures, read-size (level (c .before .before .before .before)), c .before .before .before .before .before .before .before .pre .3)
+add-left-weight c = omega (arith, c .size-at .ensures, read-size (level (c .before .before .before .before)), c .before .before .before .before .before .before .before .before .pre .0 .3)
 
 size-at-requires-2 : tie.Need-size-at-requires-2
 size-at-requires-2 c κs =
@@ -50,7 +50,7 @@ mul-if1 : tie.Need-mul-if1
 mul-if1 c = omega (arith, together (heavy c))
 
 make-requires : tie.Need-make-requires
-make-requires c κs = left-asks (heavy (c .before .before))
+make-requires c κs = (left-asks (heavy (c .before .before .before)), c .before .before .before .before .before .before .before .before .before .take-apart .ensures .2)
 
 enum-known-x : tie.Need-enum-known-x
 enum-known-x c = search needs
@@ -63,28 +63,28 @@ same-length c = search needs
 
 returns : tie.Need-returns
 returns c =
-    above-stop (left-once (heavy (c .before .before .before .before .before .before .before)) (omega (arith, c .before .before .before .before .before .before .if1 .taken))) (told _ _ (c .enum-told .given .1) (c .before .before .before .before .make .ensures))
+    (above-stop (left-once (heavy (c .before .before .before .before .before .before .before .before)) (omega (arith, c .before .before .before .before .before .before .before .if1 .taken))) (told _ _ (c .enum-told .given .1) (c .before .before .before .before .make .ensures .0)), c .before .before .before .before .make .ensures .1)
 
 make-requires-2 : tie.Need-make-requires-2
 make-requires-2 c κs =
-    left-asks-2 (heavy (c .before .before .before .before .before .before .before .before .before)) (told _ _ (c .before .before .x .given .1) (c .before .before .before .before .before .before .make .ensures))
+    (left-asks-2 (heavy (c .before .before .before .before .before .before .before .before .before .before .before)) (told _ _ (c .before .before .before .x .given .1) (c .before .before .before .before .before .before .before .make .ensures .0)), c .before .before .before .before .before .before .before .make .ensures .1)
 
 same-length-2 : tie.Need-same-length-2
 same-length-2 c = search needs
 
 returns-2 : tie.Need-returns-2
 returns-2 c =
-    above-last (left-once (heavy (c .before .before .before .before .before .before .before .before .before .before .before .before)) (omega (arith, c .before .before .before .before .before .before .before .before .before .before .before .if1 .taken))) (told _ _ (c .before .before .before .before .before .x .given .1) (c .before .before .before .before .before .before .before .before .before .make .ensures)) (c .before .before .make2 .ensures)
+    (above-last (left-once (heavy (c .before .before .before .before .before .before .before .before .before .before .before .before .before .before)) (omega (arith, c .before .before .before .before .before .before .before .before .before .before .before .before .before .if1 .taken))) (told _ _ (c .before .before .before .before .before .before .x .given .1) (c .before .before .before .before .before .before .before .before .before .before .make .ensures .0)) (c .before .before .make2 .ensures .0), c .before .before .make2 .ensures .1)
 
 twice-requires : tie.Need-twice-requires
-twice-requires c κs = left-inner (heavy (c .before .before)) (omega (arith, c .before .if1 .left))
+twice-requires c κs = (left-inner (heavy (c .before .before .before)) (omega (arith, c .before .before .if1 .left)), c .before .before .before .before .before .before .before .before .before .take-apart .ensures .2)
 
 same-length-3 : tie.Need-same-length-3
 same-length-3 c = search needs
 
 returns-3 : tie.Need-returns-3
 returns-3 c =
-    left-twice (heavy (c .before .before .before .before .before)) (omega (arith, c .before .before .before .before .if1 .left)) (c .before .before .twice .ensures)
+    (left-twice (heavy (c .before .before .before .before .before .before)) (omega (arith, c .before .before .before .before .before .if1 .left)) (c .before .before .twice .ensures .0), c .before .before .twice .ensures .1)
 
 pub rotate-left-spec : {M : Type 1} → statement M
 rotate-left-spec =
