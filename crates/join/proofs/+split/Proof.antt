@@ -21,32 +21,32 @@ use Rattle.model.proofs.Lookups.{link-occupied}
 use Rattle.block.proofs.Outcomes.{told}
 use Rattle.join.proofs.Splitting.{told-parts, split-none, Opened, here, left-asks, left-parting, left-next, left-stop, left-done, right-asks, right-parting, right-next, right-stop, right-done, parting-stop}
 
-abbrev μ-split : Measures 1 split-kinds.ps ℕ
-μ-split κs a = sizeAt (heap (a .0 .now)) (a .1 .0)
+abbrev μ-split : Measures 2 split-kinds.ps ℕ
+μ-split κs a = sizeAt (heap (a .0 .now)) (a .1 .1 .0)
 
-abbrev split-at : ℕ → In 1 split-kinds.ps
-split-at t = and 1 split-kinds.ps (is 1 split-kinds.ps μ-split t) split.Pre
+abbrev split-at : ℕ → In 2 split-kinds.ps
+split-at t = and 2 split-kinds.ps (is 2 split-kinds.ps μ-split t) split.Pre
 
-abbrev split-below : ℕ → In 1 split-kinds.ps
-split-below t = and 1 split-kinds.ps (falls 1 split-kinds.ps _<_ μ-split t) split.Pre
+abbrev split-below : ℕ → In 2 split-kinds.ps
+split-below t = and 2 split-kinds.ps (falls 2 split-kinds.ps _<_ μ-split t) split.Pre
 
-abbrev calls : (t : ℕ) → In 0 into-pieces-kinds.ps × Out 0 into-pieces-kinds.ps into-pieces-kinds.r × In 1 take-apart-kinds.ps × Out 1 take-apart-kinds.ps take-apart-kinds.r × In 1 split-kinds.ps × Out 1 split-kinds.ps split-kinds.r × In 1 join-kinds.ps × Out 1 join-kinds.ps join-kinds.r
+abbrev calls : (t : ℕ) → In 0 into-pieces-kinds.ps × Out 0 into-pieces-kinds.ps into-pieces-kinds.r × In 2 take-apart-kinds.ps × Out 2 take-apart-kinds.ps take-apart-kinds.r × In 2 split-kinds.ps × Out 2 split-kinds.ps split-kinds.r × In 2 join-kinds.ps × Out 2 join-kinds.ps join-kinds.r
 calls t = (into-pieces-reads.Asked, into-pieces-reads.Learnt, take-apart-reads.Asked, take-apart-reads.Learnt, split-below t, split.Post, join-reads.Asked, join-reads.Learnt)
 
 -- the premises of a level, once the node is read
-opened : (t : ℕ) (c : split-lts.After-take-apart (calls t) (split-at t) split.Post) → let a = c .before .before .before .before .args in Opened (a .b .now) (c .take-apart .last .0) (a .n) (c .take-apart .result)
+opened : (t : ℕ) (c : split-lts.After-take-apart (calls t) (split-at t) split.Post) → let a = c .before .before .before .before .before .args in Opened (a .b .now) (c .take-apart .last .0) (a .n) (c .take-apart .result)
 opened t c =
-    let p = c .before .before .before .before .pre .1 in
-    record { level = record { running = p .0 .running; occupied = link-occupied _ _ (p .1) (c .before .before .if1 .left); is = c .take-apart .ensures .0; apart = c .take-apart .ensures .1 }; holding = p .0; small = p .2 }
+    let p = c .before .before .before .before .before .pre .1 .0 in
+    record { level = record { running = p .0 .running; occupied = link-occupied _ _ (p .1) (c .before .before .before .if1 .left); is = c .take-apart .ensures .0; apart = c .take-apart .ensures .1 }; holding = p .0; small = p .2 }
 
 split-into-pieces-requires : (t : ℕ) → split-lts.Need-into-pieces-requires (calls t) (split-at t) split.Post
 split-into-pieces-requires t c κs = search needs
 
 split-returns : (t : ℕ) → split-lts.Need-returns (calls t) (split-at t) split.Post
-split-returns t c = told-parts _ _ (sym (c .into-pieces .ensures)) (split-none _ _ _ (c .before .if1 .taken) (c .before .before .before .pre .1 .0 .running))
+split-returns t c = (told-parts _ _ (sym (c .into-pieces .ensures)) (split-none _ _ _ (c .before .if1 .taken) (c .before .before .before .pre .1 .0 .0 .running)), c .before .before .before .pre .1 .1)
 
 split-take-apart-requires : (t : ℕ) → split-lts.Need-take-apart-requires (calls t) (split-at t) split.Post
-split-take-apart-requires t c κs = let p = c .before .before .before .pre .1 in (p .0 .running, link-occupied _ _ (p .1) (c .before .if1 .left))
+split-take-apart-requires t c κs = let p = c .before .before .before .before .pre .1 .0 in ((p .0 .running, link-occupied _ _ (p .1) (c .before .before .if1 .left)), c .before .before .before .before .pre .1 .1)
 
 split-into-pieces-requires-2 : (t : ℕ) → split-lts.Need-into-pieces-requires-2 (calls t) (split-at t) split.Post
 split-into-pieces-requires-2 t c κs = search needs
@@ -55,10 +55,10 @@ split-same-length : (t : ℕ) → split-lts.Need-same-length (calls t) (split-at
 split-same-length t c = search needs
 
 split-returns-2 : (t : ℕ) → split-lts.Need-returns-2 (calls t) (split-at t) split.Post
-split-returns-2 t c = told-parts _ _ (sym (c .into-pieces2 .ensures)) (here (opened t (c .before .before .before .before .before)) _ (c .before .if2 .taken))
+split-returns-2 t c = (told-parts _ _ (sym (c .into-pieces2 .ensures)) (here (opened t (c .before .before .before .before .before)) _ (c .before .if2 .taken)), c .before .before .before .before .before .take-apart .ensures .2)
 
 split-split-requires : (t : ℕ) → split-lts.Need-split-requires (calls t) (split-at t) split.Post
-split-split-requires t c κs = left-asks (opened t (c .before .before .before .before .before .before .before)) (c .before .before .before .before .before .before .before .before .before .before .before .pre .0)
+split-split-requires t c κs = let p = left-asks (opened t (c .before .before .before .before .before .before .before .before)) (c .before .before .before .before .before .before .before .before .before .before .before .before .before .pre .0) in (p .0, (p .1, c .before .before .before .before .before .before .before .before .take-apart .ensures .2))
 
 split-enum-known-p : (t : ℕ) → split-lts.Need-enum-known-p (calls t) (split-at t) split.Post
 split-enum-known-p t c = search needs
@@ -70,10 +70,10 @@ split-same-length-2 : (t : ℕ) → split-lts.Need-same-length-2 (calls t) (spli
 split-same-length-2 t c = search needs
 
 split-returns-3 : (t : ℕ) → split-lts.Need-returns-3 (calls t) (split-at t) split.Post
-split-returns-3 t c = parting-stop (left-parting (opened t (c .before .before .before .before .before .before .before .before .before .before .before .before)) _ (c .before .before .before .before .before .before .if3 .taken)) (told-parts _ _ (c .enum-told .given .1) (c .before .before .before .before .split .ensures))
+split-returns-3 t c = (parting-stop (left-parting (opened t (c .before .before .before .before .before .before .before .before .before .before .before .before .before)) _ (c .before .before .before .before .before .before .before .if3 .taken)) (told-parts _ _ (c .enum-told .given .1) (c .before .before .before .before .split .ensures .0)), c .before .before .before .before .split .ensures .1)
 
 split-join-requires : (t : ℕ) → split-lts.Need-join-requires (calls t) (split-at t) split.Post
-split-join-requires t c κs = left-next (opened t (c .before .before .before .before .before .before .before .before .before .before .before .before .before .before)) _ (c .before .before .before .before .before .before .before .before .if3 .taken) (told-parts _ _ (c .before .before .p .given .1) (c .before .before .before .before .before .before .split .ensures))
+split-join-requires t c κs = (left-next (opened t (c .before .before .before .before .before .before .before .before .before .before .before .before .before .before .before .before)) _ (c .before .before .before .before .before .before .before .before .before .before .if3 .taken) (told-parts _ _ (c .before .before .before .p .given .1) (c .before .before .before .before .before .before .before .split .ensures .0)), c .before .before .before .before .before .before .before .split .ensures .1)
 
 split-enum-known-joined-right : (t : ℕ) → split-lts.Need-enum-known-joined-right (calls t) (split-at t) split.Post
 split-enum-known-joined-right t c = search needs
@@ -85,7 +85,7 @@ split-same-length-3 : (t : ℕ) → split-lts.Need-same-length-3 (calls t) (spli
 split-same-length-3 t c = search needs
 
 split-returns-4 : (t : ℕ) → split-lts.Need-returns-4 (calls t) (split-at t) split.Post
-split-returns-4 t c = left-stop (opened t (c .before .before .before .before .before .before .before .before .before .before .before .before .before .before .before .before .before .before .before)) _ (c .before .before .before .before .before .before .before .before .before .before .before .before .before .if3 .taken) (told-parts _ _ (c .before .before .before .before .before .before .before .p .given .1) (c .before .before .before .before .before .before .before .before .before .before .before .split .ensures)) (told _ _ (c .enum-told2 .given .1) (c .before .before .before .before .join .ensures))
+split-returns-4 t c = (left-stop (opened t (c .before .before .before .before .before .before .before .before .before .before .before .before .before .before .before .before .before .before .before .before .before)) _ (c .before .before .before .before .before .before .before .before .before .before .before .before .before .before .before .if3 .taken) (told-parts _ _ (c .before .before .before .before .before .before .before .before .p .given .1) (c .before .before .before .before .before .before .before .before .before .before .before .before .split .ensures .0)) (told _ _ (c .enum-told2 .given .1) (c .before .before .before .before .join .ensures .0)), c .before .before .before .before .join .ensures .1)
 
 split-into-pieces-requires-3 : (t : ℕ) → split-lts.Need-into-pieces-requires-3 (calls t) (split-at t) split.Post
 split-into-pieces-requires-3 t c κs = search needs
@@ -94,10 +94,10 @@ split-same-length-4 : (t : ℕ) → split-lts.Need-same-length-4 (calls t) (spli
 split-same-length-4 t c = search needs
 
 split-returns-5 : (t : ℕ) → split-lts.Need-returns-5 (calls t) (split-at t) split.Post
-split-returns-5 t c = told-parts _ _ (sym (c .into-pieces3 .ensures)) (left-done (opened t (c .before .before .before .before .before .before .before .before .before .before .before .before .before .before .before .before .before .before .before .before .before)) _ (c .before .before .before .before .before .before .before .before .before .before .before .before .before .before .before .if3 .taken) (told-parts _ _ (c .before .before .before .before .before .before .before .before .before .p .given .1) (c .before .before .before .before .before .before .before .before .before .before .before .before .before .split .ensures)) (told _ _ (c .before .before .joined-right .given .1) (c .before .before .before .before .before .before .join .ensures)))
+split-returns-5 t c = (told-parts _ _ (sym (c .into-pieces3 .ensures)) (left-done (opened t (c .before .before .before .before .before .before .before .before .before .before .before .before .before .before .before .before .before .before .before .before .before .before .before)) _ (c .before .before .before .before .before .before .before .before .before .before .before .before .before .before .before .before .before .if3 .taken) (told-parts _ _ (c .before .before .before .before .before .before .before .before .before .before .p .given .1) (c .before .before .before .before .before .before .before .before .before .before .before .before .before .before .split .ensures .0)) (told _ _ (c .before .before .joined-right .given .1) (c .before .before .before .before .before .before .join .ensures .0))), c .before .before .before .before .before .before .join .ensures .1)
 
 split-split-requires-2 : (t : ℕ) → split-lts.Need-split-requires-2 (calls t) (split-at t) split.Post
-split-split-requires-2 t c κs = right-asks (opened t (c .before .before .before .before .before .before .before)) (c .before .before .before .before .before .before .before .before .before .before .before .pre .0)
+split-split-requires-2 t c κs = let p = right-asks (opened t (c .before .before .before .before .before .before .before .before)) (c .before .before .before .before .before .before .before .before .before .before .before .before .before .pre .0) in (p .0, (p .1, c .before .before .before .before .before .before .before .before .take-apart .ensures .2))
 
 split-enum-known-p-2 : (t : ℕ) → split-lts.Need-enum-known-p-2 (calls t) (split-at t) split.Post
 split-enum-known-p-2 t c = search needs
@@ -109,10 +109,10 @@ split-same-length-5 : (t : ℕ) → split-lts.Need-same-length-5 (calls t) (spli
 split-same-length-5 t c = search needs
 
 split-returns-6 : (t : ℕ) → split-lts.Need-returns-6 (calls t) (split-at t) split.Post
-split-returns-6 t c = parting-stop (right-parting (opened t (c .before .before .before .before .before .before .before .before .before .before .before .before)) _ (c .before .before .before .before .before .before .before .before .if2 .left) (c .before .before .before .before .before .before .if3 .left)) (told-parts _ _ (c .enum-told3 .given .1) (c .before .before .before .before .split2 .ensures))
+split-returns-6 t c = (parting-stop (right-parting (opened t (c .before .before .before .before .before .before .before .before .before .before .before .before .before)) _ (c .before .before .before .before .before .before .before .before .before .if2 .left) (c .before .before .before .before .before .before .before .if3 .left)) (told-parts _ _ (c .enum-told3 .given .1) (c .before .before .before .before .split2 .ensures .0)), c .before .before .before .before .split2 .ensures .1)
 
 split-join-requires-2 : (t : ℕ) → split-lts.Need-join-requires-2 (calls t) (split-at t) split.Post
-split-join-requires-2 t c κs = right-next (opened t (c .before .before .before .before .before .before .before .before .before .before .before .before .before .before)) _ (c .before .before .before .before .before .before .before .before .before .before .if2 .left) (c .before .before .before .before .before .before .before .before .if3 .left) (told-parts _ _ (c .before .before .p2 .given .1) (c .before .before .before .before .before .before .split2 .ensures))
+split-join-requires-2 t c κs = (right-next (opened t (c .before .before .before .before .before .before .before .before .before .before .before .before .before .before .before .before)) _ (c .before .before .before .before .before .before .before .before .before .before .before .before .if2 .left) (c .before .before .before .before .before .before .before .before .before .before .if3 .left) (told-parts _ _ (c .before .before .before .p2 .given .1) (c .before .before .before .before .before .before .before .split2 .ensures .0)), c .before .before .before .before .before .before .before .split2 .ensures .1)
 
 split-enum-known-joined-left : (t : ℕ) → split-lts.Need-enum-known-joined-left (calls t) (split-at t) split.Post
 split-enum-known-joined-left t c = search needs
@@ -124,7 +124,7 @@ split-same-length-6 : (t : ℕ) → split-lts.Need-same-length-6 (calls t) (spli
 split-same-length-6 t c = search needs
 
 split-returns-7 : (t : ℕ) → split-lts.Need-returns-7 (calls t) (split-at t) split.Post
-split-returns-7 t c = right-stop (opened t (c .before .before .before .before .before .before .before .before .before .before .before .before .before .before .before .before .before .before .before)) _ (c .before .before .before .before .before .before .before .before .before .before .before .before .before .before .before .if2 .left) (c .before .before .before .before .before .before .before .before .before .before .before .before .before .if3 .left) (told-parts _ _ (c .before .before .before .before .before .before .before .p2 .given .1) (c .before .before .before .before .before .before .before .before .before .before .before .split2 .ensures)) (told _ _ (c .enum-told4 .given .1) (c .before .before .before .before .join2 .ensures))
+split-returns-7 t c = (right-stop (opened t (c .before .before .before .before .before .before .before .before .before .before .before .before .before .before .before .before .before .before .before .before .before)) _ (c .before .before .before .before .before .before .before .before .before .before .before .before .before .before .before .before .before .if2 .left) (c .before .before .before .before .before .before .before .before .before .before .before .before .before .before .before .if3 .left) (told-parts _ _ (c .before .before .before .before .before .before .before .before .p2 .given .1) (c .before .before .before .before .before .before .before .before .before .before .before .before .split2 .ensures .0)) (told _ _ (c .enum-told4 .given .1) (c .before .before .before .before .join2 .ensures .0)), c .before .before .before .before .join2 .ensures .1)
 
 split-into-pieces-requires-4 : (t : ℕ) → split-lts.Need-into-pieces-requires-4 (calls t) (split-at t) split.Post
 split-into-pieces-requires-4 t c κs = search needs
@@ -133,7 +133,7 @@ split-same-length-7 : (t : ℕ) → split-lts.Need-same-length-7 (calls t) (spli
 split-same-length-7 t c = search needs
 
 split-returns-8 : (t : ℕ) → split-lts.Need-returns-8 (calls t) (split-at t) split.Post
-split-returns-8 t c = told-parts _ _ (sym (c .into-pieces4 .ensures)) (right-done (opened t (c .before .before .before .before .before .before .before .before .before .before .before .before .before .before .before .before .before .before .before .before .before)) _ (c .before .before .before .before .before .before .before .before .before .before .before .before .before .before .before .before .before .if2 .left) (c .before .before .before .before .before .before .before .before .before .before .before .before .before .before .before .if3 .left) (told-parts _ _ (c .before .before .before .before .before .before .before .before .before .p2 .given .1) (c .before .before .before .before .before .before .before .before .before .before .before .before .before .split2 .ensures)) (told _ _ (c .before .before .joined-left .given .1) (c .before .before .before .before .before .before .join2 .ensures)))
+split-returns-8 t c = (told-parts _ _ (sym (c .into-pieces4 .ensures)) (right-done (opened t (c .before .before .before .before .before .before .before .before .before .before .before .before .before .before .before .before .before .before .before .before .before .before .before)) _ (c .before .before .before .before .before .before .before .before .before .before .before .before .before .before .before .before .before .before .before .if2 .left) (c .before .before .before .before .before .before .before .before .before .before .before .before .before .before .before .before .before .if3 .left) (told-parts _ _ (c .before .before .before .before .before .before .before .before .before .before .p2 .given .1) (c .before .before .before .before .before .before .before .before .before .before .before .before .before .before .split2 .ensures .0)) (told _ _ (c .before .before .joined-left .given .1) (c .before .before .before .before .before .before .join2 .ensures .0))), c .before .before .before .before .before .before .join2 .ensures .1)
 
 pub +split-spec : {M : Type 1} → statement M
 +split-spec = close μ-split λ t. split-lts.spec (calls t)
