@@ -18,6 +18,7 @@ ghost use mathlib.Core.List.{[], _∷_};
 ghost use Rattle.model.specs.Moves.{Holding};
 ghost use Rattle.model.specs.Rules.{rest, difference, diffBy};
 ghost use Rattle.block.specs.Outcome.{Outcome, answer};
+ghost use Rattle.block.specs.Low.{Low};
 ghost use Rattle.sets.specs.United.{United, picked};
 ghost use Rattle.sets.specs.Words.{wordBy};
 
@@ -41,9 +42,9 @@ fn left_first(b: &[u32], left: u32, right: u32) -> bool
 
 // Takes the larger tree's root, the left's on equal sizes, so that the smaller is the one split; parts are united as (left, right) whichever root it was.
 // Both ways are one code: with its calls written twice a level takes 288 bytes of stack in place of 208, and a chain has 4,096 levels.
-pub fn union(b: &mut [u32], rule: u32, left: u32, right: u32) -> Made
-    requires { ⌜ Holding (now b) (left ∷ right ∷ []) × Named (heap (now b)) left × Named (heap (now b)) right × (sizeAt (heap (now b)) left + sizeAt (heap (now b)) right < 1048576) ⌝ }
-    ensures { λ r. ⌜ United (now (b .entry)) (now (b .exit)) r (wordBy rule) left right ⌝ }
+pub fn union(b: &mut [u32], low: &mut u32, rule: u32, left: u32, right: u32) -> Made
+    requires { ⌜ (Holding (now b) (left ∷ right ∷ []) × Named (heap (now b)) left × Named (heap (now b)) right × (sizeAt (heap (now b)) left + sizeAt (heap (now b)) right < 1048576)) × Low (now b) (now low) ⌝ }
+    ensures { λ r. ⌜ United (now (b .entry)) (now (b .exit)) r (wordBy rule) left right × Low (now (b .exit)) (now (low .exit)) ⌝ }
 {
     if left == 0 {
         return Made::At(right);
@@ -54,40 +55,47 @@ pub fn union(b: &mut [u32], rule: u32, left: u32, right: u32) -> Made
     let first = left_first(b, left, right);
     let root = pick(first, left, right);
     let other = pick(first, right, left);
-    let n = take_apart(b, root);
-    let Parted::Into(p) = split(b, other, n.key) else {
+    let n = take_apart(b, low, root);
+    let Parted::Into(p) = split(b, low, other, n.key) else {
         return Made::Full;
     };
     let found = p.found;
     let value = merged(rule, first, n.value, found);
     let x = pick(first, n.left, p.left);
     let y = pick(first, p.left, n.left);
-    let Made::At(new_left) = union(b, rule, x, y) else {
+    let Made::At(new_left) = union(b, low, rule, x, y) else {
         return Made::Full;
     };
     let z = pick(first, n.right, p.right);
     let w = pick(first, p.right, n.right);
-    let Made::At(new_right) = union(b, rule, z, w) else {
+    let Made::At(new_right) = union(b, low, rule, z, w) else {
         return Made::Full;
     };
-    join(b, n.key, value, new_left, new_right)
+    join(b, low, n.key, value, new_left, new_right)
 }
 
 // The two sides with the root's entry between them where it stays, else without it.
-fn rest(b: &mut [u32], left: u32, key: u32, stays: Found, right: u32) -> Made
-    requires { ⌜ Holding (now b) (left ∷ right ∷ []) × Named (heap (now b)) left × Named (heap (now b)) right × (sizeAt (heap (now b)) left + sizeAt (heap (now b)) right < 1048576) ⌝ }
-    ensures { λ r. ⌜ Outcome (now (b .entry)) (now (b .exit)) (left ∷ right ∷ []) r (rest (tree (heap (now (b .entry))) left) key (answer stays) (tree (heap (now (b .entry))) right)) ⌝ }
+fn rest(b: &mut [u32], low: &mut u32, left: u32, key: u32, stays: Found, right: u32) -> Made
+    requires { ⌜ (Holding (now b) (left ∷ right ∷ []) × Named (heap (now b)) left × Named (heap (now b)) right × (sizeAt (heap (now b)) left + sizeAt (heap (now b)) right < 1048576)) × Low (now b) (now low) ⌝ }
+    ensures { λ r. ⌜ Outcome (now (b .entry)) (now (b .exit)) (left ∷ right ∷ []) r (rest (tree (heap (now (b .entry))) left) key (answer stays) (tree (heap (now (b .entry))) right)) × Low (now (b .exit)) (now (low .exit)) ⌝ }
 {
     match stays {
-        Found::Value(value) => join(b, key, value, left, right),
-        Found::Absent => without_key(b, left, right),
+        Found::Value(value) => join(b, low, key, value, left, right),
+        Found::Absent => without_key(b, low, left, right),
     }
 }
 
 // Takes the left root, as only left keys can stay; with cancelling, a node that both trees share leaves nothing and is not opened.
-pub fn difference(b: &mut [u32], rule: u32, cancel: bool, left: u32, right: u32) -> Made
-    requires { ⌜ Holding (now b) (left ∷ right ∷ []) × Named (heap (now b)) left × Named (heap (now b)) right × (sizeAt (heap (now b)) left + sizeAt (heap (now b)) right < 1048576) ⌝ }
-    ensures { λ r. ⌜ Outcome (now (b .entry)) (now (b .exit)) (left ∷ right ∷ []) r (difference (diffBy rule) cancel (tree (heap (now (b .entry))) left) (tree (heap (now (b .entry))) right)) ⌝ }
+pub fn difference(
+    b: &mut [u32],
+    low: &mut u32,
+    rule: u32,
+    cancel: bool,
+    left: u32,
+    right: u32,
+) -> Made
+    requires { ⌜ (Holding (now b) (left ∷ right ∷ []) × Named (heap (now b)) left × Named (heap (now b)) right × (sizeAt (heap (now b)) left + sizeAt (heap (now b)) right < 1048576)) × Low (now b) (now low) ⌝ }
+    ensures { λ r. ⌜ Outcome (now (b .entry)) (now (b .exit)) (left ∷ right ∷ []) r (difference (diffBy rule) cancel (tree (heap (now (b .entry))) left) (tree (heap (now (b .entry))) right)) × Low (now (b .exit)) (now (low .exit)) ⌝ }
 {
     if left == 0 {
         return Made::At(0);
@@ -98,17 +106,17 @@ pub fn difference(b: &mut [u32], rule: u32, cancel: bool, left: u32, right: u32)
     if cancel && left == right {
         return Made::At(0);
     }
-    let l = take_apart(b, left);
-    let Parted::Into(r) = split(b, right, l.key) else {
+    let l = take_apart(b, low, left);
+    let Parted::Into(r) = split(b, low, right, l.key) else {
         return Made::Full;
     };
     let found = r.found;
     let stays = kept(rule, l.value, found);
-    let Made::At(new_left) = difference(b, rule, cancel, l.left, r.left) else {
+    let Made::At(new_left) = difference(b, low, rule, cancel, l.left, r.left) else {
         return Made::Full;
     };
-    let Made::At(new_right) = difference(b, rule, cancel, l.right, r.right) else {
+    let Made::At(new_right) = difference(b, low, rule, cancel, l.right, r.right) else {
         return Made::Full;
     };
-    rest(b, new_left, l.key, stays, new_right)
+    rest(b, low, new_left, l.key, stays, new_right)
 }

@@ -8,25 +8,25 @@ enum-known-stays : tie.Need-enum-known-stays
 enum-known-stays c = search needs
 
 join-requires : tie.Need-join-requires
-join-requires c κs = search needs
+join-requires c κs = c .before .before .before .before .before .before .pre
 
 enum-told : tie.Need-enum-told
 enum-told c = search needs
 
 without-key-requires : tie.Need-without-key-requires
-without-key-requires c κs = search needs
+without-key-requires c κs = c .before .before .before .before .before .pre
 
 same-length : tie.Need-same-length
 same-length c = search needs
 
 returns : tie.Need-returns
-returns c = by-join _ _ _ _ _ (c .before .before .before .before .before .stays .given .1) (c .before .before .join .ensures)
+returns c = (by-join _ _ _ _ _ (c .before .before .before .before .before .before .stays .given .1) (c .before .before .join .ensures .0), c .before .before .join .ensures .1)
 
 same-length-2 : tie.Need-same-length-2
 same-length-2 c = search needs
 
 returns-2 : tie.Need-returns-2
-returns-2 c = by-without _ _ _ _ (c .before .before .before .before .enum-told .given .1) (c .before .before .without-key .ensures)
+returns-2 c = (by-without _ _ _ _ (c .before .before .before .before .before .enum-told .given .1) (c .before .before .without-key .ensures .0), c .before .before .without-key .ensures .1)
 
 pub rest-spec : {M : Type 1} → statement M
 rest-spec =
