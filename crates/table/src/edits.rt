@@ -40,9 +40,10 @@ pub fn insert(b: &mut [u32], dst: u32, src: u32, key: u32, value: u32) -> Answer
         return plain(ZERO);
     }
     let from = makes_from(b);
+    let mut low = from;
     let source = root(b, src);
     let found = find(b, source, key);
-    let made = tree::insert(b, is_absent(found), source, key, value);
+    let made = tree::insert(b, &mut low, is_absent(found), source, key, value);
     after(settle(b, dst, from, made), found)
 }
 
@@ -55,9 +56,10 @@ pub fn remove(b: &mut [u32], dst: u32, src: u32, key: u32) -> Answer
         return plain(n);
     }
     let from = makes_from(b);
+    let mut low = from;
     let source = root(b, src);
     let found = find(b, source, key);
-    let made = without(b, source, key, found);
+    let made = without(b, &mut low, source, key, found);
     after(settle(b, dst, from, made), found)
 }
 
@@ -103,7 +105,8 @@ pub fn union(b: &mut [u32], dst: u32, left: u32, right: u32, rule: u32) -> Answe
         return plain(SUM);
     }
     let from = makes_from(b);
-    let made = sets::union(b, rule, l, r);
+    let mut low = from;
+    let made = sets::union(b, &mut low, rule, l, r);
     plain(settle(b, dst, from, made))
 }
 
@@ -119,8 +122,9 @@ pub fn difference(b: &mut [u32], dst: u32, left: u32, right: u32, rule: u32, can
         return plain(RULE);
     }
     let from = makes_from(b);
+    let mut low = from;
     let l = root(b, left);
     let r = root(b, right);
-    let made = sets::difference(b, rule, cancel, l, r);
+    let made = sets::difference(b, &mut low, rule, cancel, l, r);
     plain(settle(b, dst, from, made))
 }

@@ -20,18 +20,18 @@ sources c =
     let A = admitted (c .before .before .before .before .before .before .before .before) in
     (record { sound = A .sound; known = A .second; is = c .before .before .root .ensures }, record { sound = A .sound; known = A .third; is = c .root2 .ensures })
 
-run : (c : tie.After-difference) → Run (c .before .before .before .before .before .before .before .before .before .before .before .before .before .before .args .b .now) (c .difference .last .0) (c .before .before .before .before .before .before .makes-from .result) (c .difference .result) (edit (c .before .before .before .before .before .before .before .before .before .before .before .before .before .before))
+run : (c : tie.After-difference) → Run (c .before .before .before .before .before .before .before .before .before .before .before .before .before .before .before .args .b .now) (c .difference .last .0) (c .before .before .before .before .before .before .before .makes-from .result) (c .difference .result) (edit (c .before .before .before .before .before .before .before .before .before .before .before .before .before .before .before))
 run c =
-    let A = admitted (c .before .before .before .before .before .before .before .before .before .before) in
-    let S = sources (c .before .before) in
-    let a = c .before .before .before .before .before .before .before .before .before .before .before .before .before .before .args in
-    let legal = rule-known (c .before .before .before .before .before .before .before .before .before .difference-rule .result) (c .before .before .before .before .before .before .before .before .before .difference-rule .ensures) (c .before .before .before .before .before .before .before .before .if2 .left) in
+    let A = admitted (c .before .before .before .before .before .before .before .before .before .before .before) in
+    let S = sources (c .before .before .before) in
+    let a = c .before .before .before .before .before .before .before .before .before .before .before .before .before .before .before .args in
+    let legal = rule-known (c .before .before .before .before .before .before .before .before .before .before .difference-rule .result) (c .before .before .before .before .before .before .before .before .before .before .difference-rule .ensures) (c .before .before .before .before .before .before .before .before .before .if2 .left) in
     record {
       begun = record { sound = A .sound; versions = three-known (A .first) (A .second) (A .third); legal = legal; positive = refl; fits = refl };
-      low-is = c .before .before .before .before .before .before .makes-from .ensures;
+      low-is = c .before .before .before .before .before .before .before .makes-from .ensures;
       pieces = _;
       named = pair-pieces (S .0) (S .1);
-      out = lessened (a .rule) (a .cancel) (S .0) (S .1) (c .difference .ensures);
+      out = lessened (a .rule) (a .cancel) (S .0) (S .1) (c .difference .ensures .0);
       ordered = lessened-ordered (A .sound) (a .left) (a .right) (a .rule) (a .cancel) legal (A .second) (A .third);
     }
 
@@ -71,12 +71,12 @@ root-requires-2 : tie.Need-root-requires-2
 root-requires-2 c κs = let A = admitted (c .before .before .before .before .before .before .before) in (A .sound .shaped, A .third)
 
 difference-requires : tie.Need-difference-requires
-difference-requires c κs = let S = sources (c .before) in pair-asks (S .0) (S .1)
+difference-requires c κs = let S = sources (c .before .before) in (pair-asks (S .0) (S .1), c .before .before .before .before .before .before .makes-from .ensures)
 
 settle-requires : tie.Need-settle-requires
 settle-requires c κs =
     let R = settle-asks (run (c .before .before .before)) in
-    let A = admitted (c .before .before .before .before .before .before .before .before .before .before .before .before .before) in
+    let A = admitted (c .before .before .before .before .before .before .before .before .before .before .before .before .before .before) in
     (R .0, search needs, R .1, R .2, R .3)
 
 plain-requires-3 : tie.Need-plain-requires-3
@@ -88,7 +88,7 @@ same-length-3 c = search needs
 returns-3 : tie.Need-returns-3
 returns-3 c =
     let s = c .before .before .before .settle in
-    settled (run (c .before .before .before .before .before .before .before)) (s .result) (s .ensures) (c .plain3 .ensures ∙ plain-ended (s .result)) (λ i. omega (arith, c .before .before .before .before .before .before .before .before .before .before .before .before .before .before .before .before .before .before .before .before .slice-known .given i)) (λ i. omega (arith, c .before .slice-known3 .given i))
+    settled (run (c .before .before .before .before .before .before .before)) (s .result) (s .ensures) (c .plain3 .ensures ∙ plain-ended (s .result)) (λ i. omega (arith, c .before .before .before .before .before .before .before .before .before .before .before .before .before .before .before .before .before .before .before .before .before .slice-known .given i)) (λ i. omega (arith, c .before .slice-known3 .given i))
 
 pub difference-spec : {M : Type 1} → statement M
 difference-spec =

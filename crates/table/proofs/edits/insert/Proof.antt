@@ -24,18 +24,18 @@ admitted c = admission _ _ _ (c .before .admit .ensures) (c .if1 .left)
 source : (c : tie.After-root) → Source (c .before .before .before .before .before .before .before .before .before .args .b .now) (c .before .before .before .before .before .before .before .before .before .args .src) (c .root .result)
 source c = let A = admitted (c .before .before .before .before .before) in record { sound = A .sound; known = A .second; is = c .root .ensures }
 
-run : (c : tie.After-insert) → Run (c .before .before .before .before .before .before .before .before .before .before .before .before .before .before .args .b .now) (c .insert .last .0) (c .before .before .before .before .before .before .before .makes-from .result) (c .insert .result) (edit (c .before .before .before .before .before .before .before .before .before .before .before .before .before .before))
+run : (c : tie.After-insert) → Run (c .before .before .before .before .before .before .before .before .before .before .before .before .before .before .before .args .b .now) (c .insert .last .0) (c .before .before .before .before .before .before .before .before .makes-from .result) (c .insert .result) (edit (c .before .before .before .before .before .before .before .before .before .before .before .before .before .before .before))
 run c =
-    let A = admitted (c .before .before .before .before .before .before .before .before .before .before) in
-    let S = source (c .before .before .before .before .before) in
-    let a = c .before .before .before .before .before .before .before .before .before .before .before .before .before .before .args in
-    let positive : ltb 0 (a .value) ≡ true = lt-ltb 0 (a .value) (omega (arith, c .before .before .before .before .before .before .before .before .before .if2 .left)) in
+    let A = admitted (c .before .before .before .before .before .before .before .before .before .before .before) in
+    let S = source (c .before .before .before .before .before .before) in
+    let a = c .before .before .before .before .before .before .before .before .before .before .before .before .before .before .before .args in
+    let positive : ltb 0 (a .value) ≡ true = lt-ltb 0 (a .value) (omega (arith, c .before .before .before .before .before .before .before .before .before .before .if2 .left)) in
     record {
       begun = record { sound = A .sound; versions = two-known (A .first) (A .second); legal = refl; positive = positive; fits = refl };
-      low-is = c .before .before .before .before .before .before .before .makes-from .ensures;
+      low-is = c .before .before .before .before .before .before .before .before .makes-from .ensures;
       pieces = _;
       named = source-pieces S;
-      out = inserted S (c .before .before .before .find .result) (c .before .is-absent .result) (a .key) (a .value) (c .before .is-absent .ensures) (c .before .before .before .find .ensures) (c .insert .ensures);
+      out = inserted S (c .before .before .before .before .find .result) (c .before .is-absent .result) (a .key) (a .value) (c .before .is-absent .ensures) (c .before .before .before .before .find .ensures) (c .insert .ensures .0);
       ordered = insert-ordered _ (a .key) (a .value) _ (version-ordered (S .sound .sound) (a .src) (S .known));
     }
 
@@ -76,12 +76,12 @@ is-absent-requires : tie.Need-is-absent-requires
 is-absent-requires c κs = search needs
 
 insert-requires : tie.Need-insert-requires
-insert-requires c κs = rule-asks (source (c .before .before .before .before))
+insert-requires c κs = (rule-asks (source (c .before .before .before .before .before)), c .before .before .before .before .before .before .before .makes-from .ensures)
 
 settle-requires : tie.Need-settle-requires
 settle-requires c κs =
     let R = settle-asks (run (c .before .before .before)) in
-    let A = admitted (c .before .before .before .before .before .before .before .before .before .before .before .before .before) in
+    let A = admitted (c .before .before .before .before .before .before .before .before .before .before .before .before .before .before) in
     (R .0, search needs, R .1, R .2, R .3)
 
 after-requires : tie.Need-after-requires
@@ -93,8 +93,8 @@ same-length-3 c = search needs
 returns-3 : tie.Need-returns-3
 returns-3 c =
     let s = c .before .before .before .settle in
-    let is = c .after .ensures ∙ ap (λ o. ended (s .result) (finding o)) (source-found (source (c .before .before .before .before .before .before .before .before .before .before .before .before)) (c .before .before .before .before .before .before .before .before .before .before .before .before .before .before .before .before .before .before .before .before .before .args .key) (c .before .before .before .before .before .before .before .before .before .before .find .ensures)) in
-    settled (run (c .before .before .before .before .before .before .before)) (s .result) (s .ensures) is (λ i. omega (arith, c .before .before .before .before .before .before .before .before .before .before .before .before .before .before .before .before .before .before .before .before .slice-known .given i)) (λ i. omega (arith, c .before .slice-known3 .given i))
+    let is = c .after .ensures ∙ ap (λ o. ended (s .result) (finding o)) (source-found (source (c .before .before .before .before .before .before .before .before .before .before .before .before .before)) (c .before .before .before .before .before .before .before .before .before .before .before .before .before .before .before .before .before .before .before .before .before .before .args .key) (c .before .before .before .before .before .before .before .before .before .before .before .find .ensures)) in
+    settled (run (c .before .before .before .before .before .before .before)) (s .result) (s .ensures) is (λ i. omega (arith, c .before .before .before .before .before .before .before .before .before .before .before .before .before .before .before .before .before .before .before .before .before .slice-known .given i)) (λ i. omega (arith, c .before .slice-known3 .given i))
 
 pub insert-spec : {M : Type 1} → statement M
 insert-spec =

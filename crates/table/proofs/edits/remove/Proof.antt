@@ -21,17 +21,17 @@ admitted c = admission _ _ _ (c .before .admit .ensures) (c .if1 .left)
 source : (c : tie.After-root) → Source (c .before .before .before .before .before .before .before .before .args .b .now) (c .before .before .before .before .before .before .before .before .args .src) (c .root .result)
 source c = let A = admitted (c .before .before .before .before) in record { sound = A .sound; known = A .second; is = c .root .ensures }
 
-run : (c : tie.After-without) → Run (c .before .before .before .before .before .before .before .before .before .before .before .before .args .b .now) (c .without .last .0) (c .before .before .before .before .before .before .makes-from .result) (c .without .result) (edit (c .before .before .before .before .before .before .before .before .before .before .before .before))
+run : (c : tie.After-without) → Run (c .before .before .before .before .before .before .before .before .before .before .before .before .before .args .b .now) (c .without .last .0) (c .before .before .before .before .before .before .before .makes-from .result) (c .without .result) (edit (c .before .before .before .before .before .before .before .before .before .before .before .before .before))
 run c =
-    let A = admitted (c .before .before .before .before .before .before .before .before) in
-    let S = source (c .before .before .before .before) in
-    let a = c .before .before .before .before .before .before .before .before .before .before .before .before .args in
+    let A = admitted (c .before .before .before .before .before .before .before .before .before) in
+    let S = source (c .before .before .before .before .before) in
+    let a = c .before .before .before .before .before .before .before .before .before .before .before .before .before .args in
     record {
       begun = record { sound = A .sound; versions = two-known (A .first) (A .second); legal = refl; positive = refl; fits = refl };
-      low-is = c .before .before .before .before .before .before .makes-from .ensures;
+      low-is = c .before .before .before .before .before .before .before .makes-from .ensures;
       pieces = _;
       named = source-pieces S;
-      out = removed S (a .key) (c .without .ensures);
+      out = removed S (a .key) (c .without .ensures .0);
       ordered = remove-ordered _ (a .key) _ (version-ordered (S .sound .sound) (a .src) (S .known));
     }
 
@@ -57,12 +57,12 @@ find-requires : tie.Need-find-requires
 find-requires c κs = read-asks (source (c .before))
 
 without-requires : tie.Need-without-requires
-without-requires c κs = let R = rule-asks (source (c .before .before .before)) in (R .0, R .1, R .2, c .before .find .ensures)
+without-requires c κs = let R = rule-asks (source (c .before .before .before .before)) in ((R .0, R .1, R .2, c .before .before .find .ensures), c .before .before .before .before .before .before .makes-from .ensures)
 
 settle-requires : tie.Need-settle-requires
 settle-requires c κs =
     let R = settle-asks (run (c .before .before .before)) in
-    let A = admitted (c .before .before .before .before .before .before .before .before .before .before .before) in
+    let A = admitted (c .before .before .before .before .before .before .before .before .before .before .before .before) in
     (R .0, search needs, R .1, R .2, R .3)
 
 after-requires : tie.Need-after-requires
@@ -74,8 +74,8 @@ same-length-2 c = search needs
 returns-2 : tie.Need-returns-2
 returns-2 c =
     let s = c .before .before .before .settle in
-    let is = c .after .ensures ∙ ap (λ o. ended (s .result) (finding o)) (source-found (source (c .before .before .before .before .before .before .before .before .before .before .before)) (c .before .before .before .before .before .before .before .before .before .before .before .before .before .before .before .before .before .before .before .args .key) (c .before .before .before .before .before .before .before .before .before .find .ensures)) in
-    settled (run (c .before .before .before .before .before .before .before)) (s .result) (s .ensures) is (λ i. omega (arith, c .before .before .before .before .before .before .before .before .before .before .before .before .before .before .before .before .before .before .slice-known .given i)) (λ i. omega (arith, c .before .slice-known3 .given i))
+    let is = c .after .ensures ∙ ap (λ o. ended (s .result) (finding o)) (source-found (source (c .before .before .before .before .before .before .before .before .before .before .before .before)) (c .before .before .before .before .before .before .before .before .before .before .before .before .before .before .before .before .before .before .before .before .args .key) (c .before .before .before .before .before .before .before .before .before .before .find .ensures)) in
+    settled (run (c .before .before .before .before .before .before .before)) (s .result) (s .ensures) is (λ i. omega (arith, c .before .before .before .before .before .before .before .before .before .before .before .before .before .before .before .before .before .before .before .slice-known .given i)) (λ i. omega (arith, c .before .slice-known3 .given i))
 
 pub remove-spec : {M : Type 1} → statement M
 remove-spec =

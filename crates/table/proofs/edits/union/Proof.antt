@@ -38,17 +38,17 @@ begun c =
       fits = rule-known (c .before .fits2 .result) (fits-told _ (S .0) (S .1) (c .before .fits2 .ensures)) (c .if3 .left);
     }
 
-run : (c : tie.After-union) → Run (c .before .before .before .before .before .before .before .before .before .before .before .before .before .before .before .before .before .args .b .now) (c .union .last .0) (c .before .before .makes-from .result) (c .union .result) (edit (c .before .before .before .before .before .before .before .before .before .before .before .before .before .before .before .before .before))
+run : (c : tie.After-union) → Run (c .before .before .before .before .before .before .before .before .before .before .before .before .before .before .before .before .before .before .args .b .now) (c .union .last .0) (c .before .before .before .makes-from .result) (c .union .result) (edit (c .before .before .before .before .before .before .before .before .before .before .before .before .before .before .before .before .before .before))
 run c =
-    let B = begun (c .before .before .before .before) in
-    let S = sources (c .before .before .before .before .before .before .before) in
-    let a = c .before .before .before .before .before .before .before .before .before .before .before .before .before .before .before .before .before .args in
+    let B = begun (c .before .before .before .before .before) in
+    let S = sources (c .before .before .before .before .before .before .before .before) in
+    let a = c .before .before .before .before .before .before .before .before .before .before .before .before .before .before .before .before .before .before .args in
     record {
       begun = B;
-      low-is = c .before .before .makes-from .ensures;
+      low-is = c .before .before .before .makes-from .ensures;
       pieces = _;
       named = pair-pieces (S .0) (S .1);
-      out = united (a .rule) (S .0) (S .1) (B .legal) (B .fits) (c .union .ensures);
+      out = united (a .rule) (S .0) (S .1) (B .legal) (B .fits) (c .union .ensures .0);
       ordered = union-ordered _ _ _ _ (version-ordered (B .sound .sound) (a .left) (S .0 .known)) (version-ordered (B .sound .sound) (a .right) (S .1 .known));
     }
 
@@ -103,12 +103,12 @@ makes-from-requires : tie.Need-makes-from-requires
 makes-from-requires c κs = admitted (c .before .before .before .before .before .before .before .before .before .before) .sound .shaped
 
 union-requires : tie.Need-union-requires
-union-requires c κs = let S = sources (c .before .before .before .before .before .before) in pair-asks (S .0) (S .1)
+union-requires c κs = let S = sources (c .before .before .before .before .before .before .before) in (pair-asks (S .0) (S .1), c .before .before .makes-from .ensures)
 
 settle-requires : tie.Need-settle-requires
 settle-requires c κs =
     let R = settle-asks (run (c .before .before .before)) in
-    let A = admitted (c .before .before .before .before .before .before .before .before .before .before .before .before .before .before .before .before) in
+    let A = admitted (c .before .before .before .before .before .before .before .before .before .before .before .before .before .before .before .before .before) in
     (R .0, search needs, R .1, R .2, R .3)
 
 plain-requires-4 : tie.Need-plain-requires-4
@@ -120,7 +120,7 @@ same-length-4 c = search needs
 returns-4 : tie.Need-returns-4
 returns-4 c =
     let s = c .before .before .before .settle in
-    settled (run (c .before .before .before .before .before .before .before)) (s .result) (s .ensures) (c .plain4 .ensures ∙ plain-ended (s .result)) (λ i. omega (arith, c .before .before .before .before .before .before .before .before .before .before .before .before .before .before .before .before .before .before .before .before .before .before .before .slice-known .given i)) (λ i. omega (arith, c .before .slice-known3 .given i))
+    settled (run (c .before .before .before .before .before .before .before)) (s .result) (s .ensures) (c .plain4 .ensures ∙ plain-ended (s .result)) (λ i. omega (arith, c .before .before .before .before .before .before .before .before .before .before .before .before .before .before .before .before .before .before .before .before .before .before .before .before .slice-known .given i)) (λ i. omega (arith, c .before .slice-known3 .given i))
 
 pub union-spec : {M : Type 1} → statement M
 union-spec =
