@@ -162,8 +162,9 @@ fn edit(b: &mut [u32], version: u32, f: Frame) -> u32
     ensures { λ r. ⌜ Editing (now (b .entry)) (now (b .exit)) version f r ⌝ }
 {
     let from = makes_from(b);
+    let mut low = from;
     let source = root(b, version);
-    let made = tree::edit(b, source, f.kind, f.key, f.value);
+    let made = tree::edit(b, &mut low, source, f.kind, f.key, f.value);
     settle(b, version, from, made)
 }
 
