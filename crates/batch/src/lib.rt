@@ -15,6 +15,7 @@ ghost use Rattle.model.specs.Block.{heap};
 ghost use Rattle.model.specs.Moves.{Holding};
 ghost use Rattle.model.specs.Batch.{Legal, NoZero, batchRule, recordsFrom, BatchWords};
 ghost use Rattle.block.specs.Outcome.{Outcome};
+ghost use Rattle.block.specs.Low.{Low};
 ghost use Rattle.batch.specs.Words.{Whole};
 
 const ZERO: u32 = 13;
@@ -73,9 +74,9 @@ fn no_zero(words: &[u32], n: usize) -> bool
 }
 
 // The edits of n records in order, from the tree below start on: each takes apart what the one before it made.
-fn run(b: &mut [u32], start: u32, words: &[u32], n: usize) -> Made
-    requires { ⌜ Holding (now b) (start ∷ []) × Named (heap (now b)) start × (sizeAt (heap (now b)) start ≤ 4096) × (n ≤ 512) × (3 * n ≤ length (now words)) ⌝ }
-    ensures { λ r. ⌜ Outcome (now (b .entry)) (now (b .exit)) (start ∷ []) r (batchRule (recordsFrom (now (words .entry)) 0 n) (tree (heap (now (b .entry))) start)) ⌝ }
+fn run(b: &mut [u32], low: &mut u32, start: u32, words: &[u32], n: usize) -> Made
+    requires { ⌜ Holding (now b) (start ∷ []) × Named (heap (now b)) start × (sizeAt (heap (now b)) start ≤ 4096) × (n ≤ 512) × (3 * n ≤ length (now words)) × Low (now b) (now low) ⌝ }
+    ensures { λ r. ⌜ Outcome (now (b .entry)) (now (b .exit)) (start ∷ []) r (batchRule (recordsFrom (now (words .entry)) 0 n) (tree (heap (now (b .entry))) start)) × Low (now (b .exit)) (now (low .exit)) ⌝ }
 {
     let mut top = start;
     let mut i = 0;
@@ -84,7 +85,7 @@ fn run(b: &mut [u32], start: u32, words: &[u32], n: usize) -> Made
         let kind = words[at];
         let key = words[at + 1];
         let value = words[at + 2];
-        let Made::At(next) = tree::edit(b, top, kind, key, value) else {
+        let Made::At(next) = tree::edit(b, low, top, kind, key, value) else {
             return Made::Full;
         };
         top = next;
@@ -112,7 +113,8 @@ pub fn batch_words(b: &mut [u32], dst: u32, src: u32, words: &[u32]) -> u32
         return ZERO;
     }
     let from = makes_from(b);
+    let mut low = from;
     let source = root(b, src);
-    let made = run(b, source, words, count);
+    let made = run(b, &mut low, source, words, count);
     settle(b, dst, from, made)
 }

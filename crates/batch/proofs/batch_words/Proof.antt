@@ -36,16 +36,16 @@ to-else c = c .before .before .before .before
 source : (c : tie.After-root) → let a = entry (to-else c .before .before .before .before .before .before) .args in Source (a .b .now) (a .src) (c .root .result)
 source c = let A = admitted (to-else c .before .before .before .before .before .before) in record { sound = A .sound; known = A .second; is = c .root .ensures }
 
-ran : (c : tie.After-run) → let a = entry (to-else (c .before .before) .before .before .before .before .before .before) .args in Run (a .b .now) (c .run .last .0) (c .before .before .before .before .makes-from .result) (c .run .result) (batchRule (recordsOf (a .words .now)) (version (heap (a .b .now)) (a .src)))
+ran : (c : tie.After-run) → let a = entry (to-else (c .before .before .before) .before .before .before .before .before .before) .args in Run (a .b .now) (c .run .last .0) (c .before .before .before .before .before .makes-from .result) (c .run .result) (batchRule (recordsOf (a .words .now)) (version (heap (a .b .now)) (a .src)))
 ran c =
-    let S = source (c .before .before) in
-    let a = entry (to-else (c .before .before) .before .before .before .before .before .before) .args in
+    let S = source (c .before .before .before) in
+    let a = entry (to-else (c .before .before .before) .before .before .before .before .before .before) .args in
     record {
       sound = S .sound;
-      low-is = c .before .before .before .before .makes-from .ensures;
+      low-is = c .before .before .before .before .before .makes-from .ensures;
       pieces = _;
       named = source-pieces S;
-      out = rw (← S .is) (c .run .ensures);
+      out = rw (← S .is) (c .run .ensures .0);
       ordered = batch-ordered (recordsOf (a .words .now)) _ _ (version-ordered (S .sound .sound) (a .src) (S .known));
     }
 
@@ -95,16 +95,16 @@ root-requires c κs = let A = admitted (c .before .before .before .before .befor
 
 run-requires : tie.Need-run-requires
 run-requires c κs =
-    let S = source (c .before) in
+    let S = source (c .before .before) in
     let R = rule-asks S in
-    let W = whole (to-else (c .before) .before .before .before .before) in
-    (R .0, R .1, source-small S, omega (arith, W .1), omega arith)
+    let W = whole (to-else (c .before .before) .before .before .before .before) in
+    (R .0, R .1, source-small S, omega (arith, W .1), omega arith, c .before .before .before .before .makes-from .ensures)
 
 settle-requires : tie.Need-settle-requires
 settle-requires c κs =
     let r = c .before .before .before in
     let R = run-asks (ran r) in
-    (R .0, admitted (to-else (r .before .before) .before .before .before .before .before .before) .first, R .1, R .2, R .3)
+    (R .0, admitted (to-else (r .before .before .before) .before .before .before .before .before .before) .first, R .1, R .2, R .3)
 
 same-length-5 : tie.Need-same-length-5
 same-length-5 c = search needs
@@ -112,7 +112,7 @@ same-length-5 c = search needs
 returns-5 : tie.Need-returns-5
 returns-5 c =
     let r = c .before .before .before .before .before .before in
-    let e = to-else (r .before .before) in
+    let e = to-else (r .before .before .before) in
     let k = e .before .before in
     let A = admitted (k .before .before .before .before) in
     ended A _ (whole (k .before .before) .0, known k) (tells-yes (e .before .no-zero .result) (e .before .no-zero .ensures) (e .if4 .left))

@@ -3,19 +3,20 @@ use borrow.Author.Needs.{needs}
 use native.Mathlib.Omega.{arith}
 use Prim.Native.Nat.{_-_}
 use Rattle.block.proofs.Outcomes.{told}
+use Rattle.block.specs.Low.{Low}
 use Rattle.block.specs.declared.Made.the-variants.{At, Full}
 use Rattle.batch.proofs.Going.{Going, going-start, going-stop, going-next, going-end}
 use Rattle.batch.proofs.run.Statement.{statement}
 use Rattle.batch.proofs.run.Tie as tie
 
 abbrev Inv-loop : tie.InvT-loop
-Inv-loop b₀ start words n top₀ i₀ b top i = Going b₀ b start top words n i
+Inv-loop b₀ low₀ start words n top₀ i₀ b low top i = Going b₀ b start top words n i × Low b low
 
 abbrev μ-loop : tie.MeasureT-loop
-μ-loop b₀ start words n top₀ i₀ b top i = n - i
+μ-loop b₀ low₀ start words n top₀ i₀ b low top i = n - i
 
 loop-holds : tie.Need-loop-holds Inv-loop μ-loop
-loop-holds c = going-start _ _ (c .before .before .pre .0) (c .before .before .pre .1) (c .before .before .pre .2)
+loop-holds c = let p = c .before .before .pre in (going-start _ _ (p .0) (p .1) (p .2), p .5)
 
 mul-at : tie.Need-mul-at Inv-loop μ-loop
 mul-at c = search needs
@@ -45,7 +46,7 @@ shared-slice-read-value : tie.Need-shared-slice-read-value Inv-loop μ-loop
 shared-slice-read-value c = search needs
 
 edit-requires : tie.Need-edit-requires Inv-loop μ-loop
-edit-requires c κs = let I = c .before .before .before .before .before .loop .inv in (I .holds, I .named, omega (arith, I .small, c .before .before .before .before .loop-test .taken, c .before .before .before .before .before .before .before .before .pre .3))
+edit-requires c κs = let I = c .before .before .before .before .before .before .loop .inv .0 in ((I .holds, I .named, omega (arith, I .small, c .before .before .before .before .before .loop-test .taken, c .before .before .before .before .before .before .before .before .before .pre .3)), c .before .before .before .before .before .before .loop .inv .1)
 
 enum-known-next : tie.Need-enum-known-next Inv-loop μ-loop
 enum-known-next c = search needs
@@ -57,7 +58,7 @@ same-length : tie.Need-same-length Inv-loop μ-loop
 same-length c = search needs
 
 returns : tie.Need-returns Inv-loop μ-loop
-returns c = going-stop (c .before .before .before .before .before .before .before .before .before .before .loop .inv) (c .before .before .before .before .before .before .before .before .before .loop-test .taken) (told _ Full (c .enum-told .given .1) (c .before .before .before .before .edit .ensures))
+returns c = (going-stop (c .before .before .before .before .before .before .before .before .before .before .before .loop .inv .0) (c .before .before .before .before .before .before .before .before .before .before .loop-test .taken) (told _ Full (c .enum-told .given .1) (c .before .before .before .before .edit .ensures .0)), c .before .before .before .before .edit .ensures .1)
 
 add-i : tie.Need-add-i Inv-loop μ-loop
 add-i c = search needs
@@ -66,13 +67,13 @@ loop-less : tie.Need-loop-less Inv-loop μ-loop
 loop-less c = search needs
 
 loop-again : tie.Need-loop-again Inv-loop μ-loop
-loop-again c = going-next (c .before .before .before .before .before .before .before .before .before .before .before .loop .inv) (c .before .before .before .before .before .before .before .before .before .before .loop-test .taken) (c .before .before .before .before .before .edit .kept .0) (told _ (At _) (c .before .next .given .1) (c .before .before .before .before .before .edit .ensures))
+loop-again c = (going-next (c .before .before .before .before .before .before .before .before .before .before .before .before .loop .inv .0) (c .before .before .before .before .before .before .before .before .before .before .before .loop-test .taken) (c .before .before .before .before .before .edit .kept .0) (told _ (At _) (c .before .next .given .1) (c .before .before .before .before .before .edit .ensures .0)), c .before .before .before .before .before .edit .ensures .1)
 
 same-length-2 : tie.Need-same-length-2 Inv-loop μ-loop
-same-length-2 c = c .before .loop .inv .long
+same-length-2 c = c .before .loop .inv .0 .long
 
 returns-2 : tie.Need-returns-2 Inv-loop μ-loop
-returns-2 c = going-end (c .before .loop .inv) (c .loop-test .left)
+returns-2 c = (going-end (c .before .loop .inv .0) (c .loop-test .left), c .before .loop .inv .1)
 
 pub run-spec : {M : Type 1} → statement M
 run-spec =
