@@ -98,12 +98,14 @@ pub fn sweep(b: &mut [u32], from: u32)
     requires { ⌜ Running (now b) × (1 ≤ from) × HeldBelow (heap (now b)) from ⌝ }
     ensures { λ r. ⌜ Swept (now (b .entry)) (now (b .exit)) ⌝ }
 {
-    let n = b[0];
+    let m = b[0] / 32;
     let mut i = from;
-    while i <= n {
-        let w = (i - 1) / 32;
+    let mut w = (from - 1) / 32;
+    while w < m {
         let next = 32 * w + 33;
-        if b[(17 + w) as usize] != 0 {
+        let word = b[(17 + w) as usize];
+        w += 1;
+        if word != 0 {
             tidy_word(b, i, next);
         }
         i = next;
