@@ -41,7 +41,7 @@ fn left_first(b: &[u32], left: u32, right: u32) -> bool
 }
 
 // Takes the larger tree's root, the left's on equal sizes, so that the smaller is the one split; parts are united as (left, right) whichever root it was.
-// Both ways are one code: with its calls written twice a level takes 288 bytes of stack in place of 208, and a chain has 4,096 levels.
+// Both ways are one code: with its calls written twice a level would take more stack (docs/PERFORMANCE.md), and a chain has 4,096 levels.
 pub fn union(b: &mut [u32], low: &mut u32, rule: u32, left: u32, right: u32) -> Made
     requires { ⌜ (Holding (now b) (left ∷ right ∷ []) × Named (heap (now b)) left × Named (heap (now b)) right × (sizeAt (heap (now b)) left + sizeAt (heap (now b)) right < 1048576)) × Low (now b) (now low) ⌝ }
     ensures { λ r. ⌜ United (now (b .entry)) (now (b .exit)) r (wordBy rule) left right × Low (now (b .exit)) (now (low .exit)) ⌝ }
