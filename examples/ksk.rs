@@ -25,6 +25,8 @@ extern "C" {
     fn ksk_begin(inbox: *mut u32, words: usize, batch: c_uint) -> c_uint;
     fn ksk_receive(block: *mut u32, words: usize, inbox: *mut u32, inbox_words: usize, version: c_uint, line: *const u8, bytes: usize, again: *mut u32, missing: *mut u32, place: *mut u32) -> c_uint;
     fn ksk_missing(inbox: *const u32, words: usize, missing: *mut u32) -> c_uint;
+    fn ksk_ask(inbox: *const u32, words: usize, start: c_uint, out: *mut u8, out_bytes: usize, written: *mut u32, total: *mut u32) -> c_uint;
+    fn ksk_resend(block: *const u32, words: usize, from: c_uint, to: c_uint, batch: c_uint, request: *const u8, request_bytes: usize, start: c_uint, out: *mut u8, out_bytes: usize, written: *mut u32, total: *mut u32) -> c_uint;
     fn ksk_ledger_fresh(ledger: *mut u64, words: usize, accounts: c_uint) -> c_uint;
     fn ksk_ledger_top_up(ledger: *mut u64, words: usize, account: c_uint, minutes: u64) -> c_uint;
     fn ksk_ledger_reserve(ledger: *mut u64, ledger_words: usize, block: *mut u32, words: usize, version: c_uint, call: c_uint, minutes: c_uint, table: *mut u32) -> c_uint;
@@ -51,6 +53,7 @@ pub enum Refusal {
     Range,
     Zero,
     Sum,
+    Request,
     Edit,
 }
 
@@ -121,8 +124,9 @@ fn heard(number: u32, place: u32) -> Result<(), Refusal> {
         12 => Refusal::Range,
         13 => Refusal::Zero,
         14 => Refusal::Sum,
+        15 => Refusal::Request,
         16 => Refusal::Edit,
-        other => unreachable!("the table gives numbers 0 to 14 and 16, not {other}"),
+        other => unreachable!("the table gives numbers 0 to 16, not {other}"),
     })
 }
 
@@ -132,6 +136,10 @@ fn done(number: u32) -> Result<(), Refusal> {
 
 fn found(had: u32, value: u32) -> Option<u32> {
     (had == 1).then_some(value)
+}
+
+fn lines(bytes: &[u8]) -> Vec<[u8; 35]> {
+    bytes.chunks(35).map(|line| line.try_into().expect("lines are 35 bytes")).collect()
 }
 
 /// A block of N nodes with its sixteen versions.
@@ -228,7 +236,17 @@ impl Block {
         let mut out = vec![0; 35 * 4096];
         let (mut written, mut total) = (0, 0);
         done(unsafe { ksk_frames(self.words.as_ptr(), self.words.len(), from, to, batch, 0, out.as_mut_ptr(), out.len(), &mut written, &mut total) })?;
-        Ok(out[..written as usize].chunks(35).map(|line| line.try_into().expect("lines are 35 bytes")).collect())
+        Ok(lines(&out[..written as usize]))
+    }
+
+    /// Of the lines that carry version `from` to version `to` those that a request asks for.
+    pub fn resend(&self, from: u32, to: u32, batch: u32, request: &[[u8; 35]]) -> Result<Vec<[u8; 35]>, Refusal> {
+        let mut out = vec![0; 35 * 4096];
+        let (mut written, mut total) = (0, 0);
+        let request = request.concat();
+        let (block, words) = (self.words.as_ptr(), self.words.len());
+        done(unsafe { ksk_resend(block, words, from, to, batch, request.as_ptr(), request.len(), 0, out.as_mut_ptr(), out.len(), &mut written, &mut total) })?;
+        Ok(lines(&out[..written as usize]))
     }
 
     /// Whether version `to` holds the same entries as version `from`; it stops at the first that differs.
@@ -289,6 +307,14 @@ impl Inbox {
         let mut missing = 0;
         done(unsafe { ksk_missing(self.words.as_ptr(), self.words.len(), &mut missing) })?;
         Ok((missing != u32::MAX).then_some(missing))
+    }
+
+    /// The request for what is missing; one line that says complete if nothing is.
+    pub fn ask(&self) -> Result<Vec<[u8; 35]>, Refusal> {
+        let mut out = vec![0; 35 * 2048];
+        let (mut written, mut total) = (0, 0);
+        done(unsafe { ksk_ask(self.words.as_ptr(), self.words.len(), 0, out.as_mut_ptr(), out.len(), &mut written, &mut total) })?;
+        Ok(lines(&out[..written as usize]))
     }
 }
 

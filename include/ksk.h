@@ -17,7 +17,7 @@
 extern "C" {
 #endif
 
-/* Numbers a call gives back, in the order in which they are checked: 1, 2, 3, 4, 16, 13, 14, 7, 10, 11, 12, 8, 9, 13 of a line, 6, 5. */
+/* Numbers a call gives back, in the order in which they are checked: 1, 2, 3, 4, 16, 13, 14, 7 or 15, 10, 11, 12, 8, 9, 13 of a line, 6, 5. */
 #define KSK_DONE     0u
 #define KSK_SHAPE    1u /* block length or N is wrong, or inbox not 130 words */
 #define KSK_DAMAGED  2u /* block not sound, or inbox not sound */
@@ -33,6 +33,7 @@ extern "C" {
 #define KSK_RANGE    12u /* any other field rule of a line is broken: docs/LINES.md */
 #define KSK_ZERO     13u /* a value of 0 was to be put, by an insert, a batch or a line */
 #define KSK_SUM      14u /* union rule 4: the sum of a common key is above 4,294,967,295 */
+#define KSK_REQUEST  15u /* a request is empty, or a line of it is malformed, out of its place or order, or of another kind */
 #define KSK_EDIT     16u /* batch: more than 512 records, a record of another kind, or words that are no whole records */
 
 /* Numbers of the ledger, in the order in which they are checked. */
@@ -125,6 +126,14 @@ uint32_t ksk_receive(uint32_t *block, size_t words, uint32_t *inbox, size_t inbo
 
 /* How many lines are missing; KSK_UNKNOWN while no line has been accepted. */
 uint32_t ksk_missing(const uint32_t *inbox, size_t words, uint32_t *missing);
+
+/* What the standby asks for: the fewest lines that ask for exactly what is missing, from index start on while 35 bytes remain. Kind 10 (hexadecimal) asks for the index in its key,
+ * 11 for those from its key to its value, 12 says complete; 0 to 4,095 are asked for while no line has been accepted. written counts bytes; total is how many lines the request has, 2,048 at most. */
+uint32_t ksk_ask(const uint32_t *inbox, size_t words, uint32_t start, uint8_t *out, size_t out_bytes, uint32_t *written, uint32_t *total);
+
+/* What the primary sends again: of the lines that carry version from to version to under a batch number those that a request asks for, from index start on while 35 bytes remain.
+ * A request is all its lines one after another. An index past the last line is passed over. written counts bytes; total is how many lines are asked for, 0 for complete. */
+uint32_t ksk_resend(const uint32_t *block, size_t words, uint32_t from, uint32_t to, uint32_t batch, const uint8_t *request, size_t request_bytes, uint32_t start, uint8_t *out, size_t out_bytes, uint32_t *written, uint32_t *total);
 
 /* The ledger: accounts above one version, in which open calls stand under their numbers. A call number's top eight bits are its account. Only these calls may edit that version.
  * From a fresh ledger over an empty version, and with that version named in every call: for each account free + the sum of its open calls' minutes + spent is what it was topped up by. */

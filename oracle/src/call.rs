@@ -79,6 +79,19 @@ pub enum Call {
         version: u32,
         line: Vec<u8>,
     },
+    /// Of the inbox alone.
+    Ask {
+        start: u32,
+        room: usize,
+    },
+    Resend {
+        from: u32,
+        to: u32,
+        batch: u32,
+        request: Vec<u8>,
+        start: u32,
+        room: usize,
+    },
 }
 
 /// The number, two fields in the order of the export's pointers (minutes: their low and high words), the place of a line's bad digit, and the whole output:
@@ -102,7 +115,7 @@ impl Call {
     pub fn blank(&self) -> Reply {
         match *self {
             Call::List { room, .. } => Reply { words: vec![WORD; room + BEHIND], ..Reply::default() },
-            Call::Frames { room, .. } => Reply { bytes: vec![BYTE; room + BEHIND], ..Reply::default() },
+            Call::Frames { room, .. } | Call::Ask { room, .. } | Call::Resend { room, .. } => Reply { bytes: vec![BYTE; room + BEHIND], ..Reply::default() },
             _ => Reply::default(),
         }
     }
@@ -121,7 +134,8 @@ impl Call {
             | Call::Batch { dest, source, .. } => vec![dest, source],
             Call::Union { dest, left, right, .. } | Call::Difference { dest, left, right, .. } => vec![dest, left, right],
             Call::List { left, right, .. } => vec![left, right],
-            Call::Frames { from, to, .. } | Call::Same { from, to } => vec![from, to],
+            Call::Frames { from, to, .. } | Call::Same { from, to } | Call::Resend { from, to, .. } => vec![from, to],
+            Call::Ask { .. } => vec![],
         }
     }
 

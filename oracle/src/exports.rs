@@ -77,6 +77,29 @@ extern "C" {
         place: *mut u32,
     ) -> u32;
     fn ksk_missing(inbox: *const u32, words: usize, missing: *mut u32) -> u32;
+    fn ksk_ask(
+        inbox: *const u32,
+        inbox_words: usize,
+        start: u32,
+        out: *mut u8,
+        bytes: usize,
+        written: *mut u32,
+        total: *mut u32,
+    ) -> u32;
+    fn ksk_resend(
+        block: *const u32,
+        words: usize,
+        from: u32,
+        to: u32,
+        batch: u32,
+        request: *const u8,
+        request_bytes: usize,
+        start: u32,
+        out: *mut u8,
+        bytes: usize,
+        written: *mut u32,
+        total: *mut u32,
+    ) -> u32;
 }
 
 pub fn fresh(block: &mut [u32], n: u32) -> u32 {
@@ -114,7 +137,7 @@ pub fn parse(line: &[u8]) -> (u32, u32, Frame) {
 pub static ANSWERS: [AtomicU64; 17] = [const { AtomicU64::new(0) }; 17];
 
 /// The numbers that a call on a block can answer: a comparison that never meets one compares less than it says.
-pub const NUMBERS: [usize; 16] = [0, 1, 2, 3, 4, 5, 6, 7, 8, 9, 10, 11, 12, 13, 14, 16];
+pub const NUMBERS: [usize; 17] = [0, 1, 2, 3, 4, 5, 6, 7, 8, 9, 10, 11, 12, 13, 14, 15, 16];
 
 /// Runs a call. Fields that an export does not have stay zero.
 pub fn run(block: &mut [u32], inbox: &mut [u32], call: &Call) -> Reply {
@@ -168,6 +191,13 @@ pub fn run_into(block: &mut [u32], inbox: &mut [u32], call: &Call, reply: &mut R
                     }
                     Call::Frames { from, to, batch, start, room } => {
                         ksk_frames(b, words, from, to, batch, start, reply.bytes.as_mut_ptr(), room, x, y)
+                    }
+                    Call::Ask { start, room } => {
+                        ksk_ask(inbox.as_ptr(), inbox.len(), start, reply.bytes.as_mut_ptr(), room, x, y)
+                    }
+                    Call::Resend { from, to, batch, ref request, start, room } => {
+                        let (asked, bytes, out) = (request.as_ptr(), request.len(), reply.bytes.as_mut_ptr());
+                        ksk_resend(b, words, from, to, batch, asked, bytes, start, out, room, x, y)
                     }
                     Call::Receive { version, ref line } => {
                         reply.place = STALE;

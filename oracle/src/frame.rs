@@ -46,8 +46,8 @@ impl Frame {
         }
     }
 
-    /// The one fault that a line is told to have, or its frame: its length and newline first, then digits, kind, other fields.
-    pub fn read(line: &[u8]) -> Result<Frame, Fault> {
+    /// The six fields, whatever they hold; a fault of length, newline or digits.
+    pub fn fields(line: &[u8]) -> Result<Frame, Fault> {
         let digits = line.strip_suffix(b"\n").filter(|digits| digits.len() == 34).ok_or(fault(FRAME))?;
         let bad = |c: &u8| !(c.is_ascii_digit() || (b'a'..=b'f').contains(c));
         if let Some(place) = digits.iter().position(bad) {
@@ -55,14 +55,19 @@ impl Frame {
         }
         let text = std::str::from_utf8(digits).unwrap();
         let field = |from: usize, to: usize| u32::from_str_radix(&text[from..to], 16).unwrap();
-        let frame = Frame {
+        Ok(Frame {
             batch: field(0, 8),
             index: field(8, 12),
             count: field(12, 16),
             kind: field(16, 18),
             key: field(18, 26),
             value: field(26, 34),
-        };
+        })
+    }
+
+    /// The one fault that a line is told to have, or its frame: its length and newline first, then digits, kind, other fields.
+    pub fn read(line: &[u8]) -> Result<Frame, Fault> {
+        let frame = Frame::fields(line)?;
         match (frame.kind, frame.legal()) {
             (3.., _) => Err(fault(KIND)),
             (_, false) => Err(fault(RANGE)),

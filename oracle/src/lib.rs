@@ -12,6 +12,7 @@ pub mod original;
 pub mod parts;
 pub mod plain;
 pub mod random;
+pub mod request;
 pub mod rules;
 pub mod sound;
 pub mod table;

@@ -84,7 +84,7 @@ pub fn follow(maps: &mut [Map], call: &Call, reply: &Reply) -> Result<(), String
             let told = reply.words[..reply.fields[0] as usize].chunks_exact(4);
             same("rows", true, told.zip(&rows[from..]).all(|(told, row)| told == row))
         }
-        Call::Frames { .. } => Ok(()),
+        Call::Frames { .. } | Call::Ask { .. } | Call::Resend { .. } => Ok(()),
         Call::Same { from, to } => {
             let entries = |version: u32| rows(&maps[version as usize], &Map::new());
             same("same entries", [(entries(from) == entries(to)) as u32, 0], reply.fields)

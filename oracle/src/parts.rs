@@ -12,6 +12,7 @@ pub mod ledger;
 pub mod limits;
 pub mod lines;
 pub mod link;
+pub mod repair;
 pub mod room;
 pub mod sums;
 pub mod uneven;

@@ -3,6 +3,7 @@
 use crate::batch::{self, records, EDIT};
 use crate::call::{Call, Reply};
 use crate::frame::{self, Fault, Frame, LINE};
+use crate::request;
 use crate::rules::{self, Supply, Tree};
 use crate::table::Table;
 use crate::walk::{self, TooDeep};
@@ -84,14 +85,17 @@ fn run(table: &mut Table, inbox: &mut [u32], call: &Call, reply: &mut Reply) -> 
         }
         Call::Frames { from, to, batch, start, room } => {
             let frames = frame::frames(batch, &walk::delta(&tree(from), &tree(to))?);
-            let written = written(frames.len(), start, room / LINE);
-            for (place, frame) in reply.bytes.chunks_exact_mut(LINE).zip(&frames[written.clone()]) {
-                place.copy_from_slice(&frame.line());
-            }
-            reply.fields = [(LINE * written.len()) as u32, frames.len() as u32];
+            write_lines(reply, &frames, start, room);
         }
         Call::Same { from, to } => reply.fields = [walk::same(&tree(from), &tree(to))? as u32, 0],
         Call::Receive { version, ref line } => reply.fields = receive(table, inbox, version, line)?,
+        Call::Ask { start, room } => write_lines(reply, &request::ask(inbox), start, room),
+        Call::Resend { from, to, batch, ref request, start, room } => {
+            let asked = request::asked(request, batch)?;
+            let mut frames = frame::frames(batch, &walk::delta(&tree(from), &tree(to))?);
+            frames.retain(|frame| asked.contains(&frame.index));
+            write_lines(reply, &frames, start, room);
+        }
         _ => reply.fields = edit(table, call)?,
     }
     Ok(())
@@ -122,6 +126,15 @@ fn found(value: Option<u32>) -> [u32; 2] {
 fn written(total: usize, start: u32, room: usize) -> std::ops::Range<usize> {
     let start = total.min(start as usize);
     start..start + room.min(total - start)
+}
+
+/// Lines from a start index on while 35 bytes remain.
+fn write_lines(reply: &mut Reply, lines: &[Frame], start: u32, room: usize) {
+    let written = written(lines.len(), start, room / LINE);
+    for (place, line) in reply.bytes.chunks_exact_mut(LINE).zip(&lines[written.clone()]) {
+        place.copy_from_slice(&line.line());
+    }
+    reply.fields = [(LINE * written.len()) as u32, lines.len() as u32];
 }
 
 /// Runs the rule of an edit and makes its tree the destination's.

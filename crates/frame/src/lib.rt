@@ -174,7 +174,7 @@ fn bad(number: u32, place: u32) -> Parsed
 }
 
 // The six fields of a line, where all are numbers. They are read in the line's order, so the first bad digit is met first.
-fn fields(line: &[u8]) -> Parsed
+pub fn fields(line: &[u8]) -> Parsed
     requires { ⌜ length (now line) ≡ 35 ⌝ }
     ensures { λ r. ⌜ parsed r ≡ fieldsRead (now (line .entry)) ⌝ }
 {

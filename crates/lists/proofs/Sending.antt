@@ -10,8 +10,8 @@ use Rattle.model.specs.Numbers.{TOO_DEEP}
 use Rattle.model.specs.Frame.{line, framesOf, frames}
 use Rattle.model.specs.Lists.{Report, Lists, framed, part, over}
 use Rattle.table.proofs.Admitting.{Admission, two-known}
-use Rattle.lists.specs.declared.lines.Collected.{Collected}
-use Rattle.lists.specs.declared.lines.Collected.the-variants.{Changes, TooDeep}
+use Rattle.lists.specs.declared.changes.Collected.{Collected}
+use Rattle.lists.specs.declared.changes.Collected.the-variants.{Changes, TooDeep}
 use Rattle.lists.specs.Reports.{refused}
 use Rattle.lists.specs.Changes.{Collects, atLeastOne, linesIn}
 use Rattle.lists.proofs.Reporting.{Begun, lists-deep, lists-done}

@@ -4,13 +4,13 @@ use Prim.Native.Nat.{ℕ, zero, suc, _+_, _*_, _≤_}
 use mathlib.Core.Bool.{true, false}
 use mathlib.Core.Option.{none, some}
 use mathlib.Core.List.{List, [], _∷_, map}
-use lib.ListN.{getD}
+use lib.ListN.{getD, take}
 use lib.Dec.{ltb}
 use Rattle.model.specs.Tree.{Tree}
 use Rattle.model.specs.Delta.{Change, delta, deltaDeep}
 use Rattle.model.specs.Frame.{Frame, line, frameOf, nothing, framesOf}
-use Rattle.lists.specs.declared.lines.Collected.{Collected}
-use Rattle.lists.specs.declared.lines.Collected.the-variants.{Changes, TooDeep}
+use Rattle.lists.specs.declared.changes.Collected.{Collected}
+use Rattle.lists.specs.declared.changes.Collected.the-variants.{Changes, TooDeep}
 
 -- change i, in two words: its key, and its value or 0; the changes before index `puts` are puts
 unfoldable pub changeIn : (puts : ℕ) (ws : List ℕ) (i : ℕ) → Change
@@ -42,3 +42,7 @@ frameIn batch puts (suc n) ws i = frameOf batch (suc n) i (changeIn puts ws i)
 -- their lines
 unfoldable pub linesIn : (batch puts count : ℕ) (ws : List ℕ) → List (List ℕ)
 linesIn batch puts count ws = map line (framesOf batch (changesIn puts ws count 0))
+
+-- the lines of the changes that are chosen, by the first n of some words
+unfoldable pub chosenIn : (batch puts count : ℕ) (ws : List ℕ) (n : ℕ) (chosen : List ℕ) → List (List ℕ)
+chosenIn batch puts count ws n chosen = map (λ i. line (frameIn batch puts count ws i)) (take n chosen)

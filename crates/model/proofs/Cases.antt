@@ -2,9 +2,9 @@
 use mathlib.Core.Path.{_≡_, refl}
 use Prim.Native.Nat.{ℕ, _*_}
 use mathlib.Core.Bool.{Bool, false, _||_}
-use mathlib.Core.Option.{Option, some}
+use mathlib.Core.Option.{Option, none, some}
 use mathlib.Core.List.{List, [], _∷_, _++_, map}
-use lib.ListN.{length, replicate, set}
+use lib.ListN.{length, take, drop, replicate, set}
 use lib.Dec.{eqb}
 use Rattle.model.specs.Tree.{Tree, leaf, node, Entry, size, idOf, lookup, entries}
 use Rattle.model.specs.Supply.{Supply, firstOf, afterFirst, isNone, among, next, taken, back, given}
@@ -14,10 +14,12 @@ use Rattle.model.specs.Delta.{Change, changed, puts, removes, delta}
 use Rattle.model.specs.Heap.{load, tree, version, freeFrom, free}
 use Rattle.model.specs.Block.{heap}
 use Rattle.model.specs.Frame.{Frame, digit, value, digits, number, line, kindLegal, legal, fields, Reading, fault, firstBad, judged, read, parse, nothing, frameOf, numbered, framesOf, frames}
-use Rattle.model.specs.Numbers.{SHAPE, DAMAGED, VERSION, RULE, NO_ROOM, TOO_DEEP, FRAME, BATCH, COUNT, DIGIT, KIND, RANGE, ZERO, SUM, EDIT}
+use Rattle.model.specs.Numbers.{SHAPE, DAMAGED, VERSION, RULE, NO_ROOM, TOO_DEEP, FRAME, BATCH, COUNT, DIGIT, KIND, RANGE, ZERO, SUM, REQUEST, EDIT}
 use Rattle.model.specs.Calls.{freshBlock}
 use Rattle.model.specs.Batch.{Record, batchRule}
 use Rattle.model.specs.Lists.{rowWords, laid, part, listed, framed}
+use Rattle.model.specs.Inbox.{begun}
+use Rattle.model.specs.Request.{runLine, placed, completeLine, requestLines, inFront, unheard, missingRuns, requestOf, lastOf, asks, asked, inPlace, rightKind, ascend, saysComplete, wellFormed, cutting, sixFields, allFields, readRequest, wanted}
 use Rattle.model.proofs.Small.{before, amid}
 
 -- a tree's keys as they hang
@@ -139,6 +141,18 @@ bytes =
     ∷ 48 ∷ 48 ∷ 48 ∷ 48 ∷ 48 ∷ 48 ∷ 49 ∷ 102
     ∷ 10 ∷ []
 
+-- an inbox of batch 7 and 8 frames that has heard 1 and 5
+abbrev gaps : List ℕ
+gaps = 7 ∷ 8 ∷ 34 ∷ replicate 127 0
+
+-- it lacks 0, which stands alone, and two runs
+abbrev lines : List Frame
+lines =
+    record { batch = 7; index = 0; count = 3; kind = 16; key = 0; value = 0 }
+    ∷ record { batch = 7; index = 1; count = 3; kind = 17; key = 2; value = 4 }
+    ∷ record { batch = 7; index = 2; count = 3; kind = 17; key = 6; value = 7 }
+    ∷ []
+
 -- the example with the bytes at two places changed
 abbrev spoilt : (i c j d : ℕ) → List ℕ
 spoilt i c j d = set (set bytes i c) j d
@@ -152,6 +166,7 @@ pub data Shown : Type 0 where
   lists : List Row → Shown
   carries : List Change → Shown
   sends : List Frame → Shown
+  asksFor : Option (List Frame) → Shown
   stands : Tree → Shown
   writes : List ℕ → Shown
   reads : Option Frame → Shown
@@ -223,10 +238,23 @@ table =
     ∷ record { number = 0; shown = gives (read (spoilt 17 51 33 103)); told = gives (fault 10 33) }
     ∷ record { number = 0; shown = gives (read (spoilt 17 51 15 48)); told = gives (fault 11 0) }
     ∷ record { number = 0; shown = gives (read (spoilt 17 50 15 49)); told = gives (fault 12 0) }
+    ∷ record { number = 0; shown = sends (requestOf gaps); told = sends lines }
+    ∷ record { number = 0; shown = sends (requestOf (7 ∷ 1 ∷ 1 ∷ replicate 127 0)); told = sends (completeLine 7 ∷ []) }
+    ∷ record { number = 0; shown = sends (requestOf (begun 7)); told = sends (record { batch = 7; index = 0; count = 1; kind = 17; key = 0; value = 4095 } ∷ []) }
+    ∷ record { number = 0; shown = writes (laid (map (λ (f : Frame). take 2 (drop 16 (line f))) (lines ++ completeLine 7 ∷ []))); told = writes (49 ∷ 48 ∷ 49 ∷ 49 ∷ 49 ∷ 49 ∷ 49 ∷ 50 ∷ []) }
+    ∷ record { number = 0; shown = asksFor (readRequest (laid (map line lines))); told = asksFor (some lines) }
+    ∷ record { number = 0; shown = asksFor (readRequest (laid (map line lines) ++ 10 ∷ [])); told = asksFor none }
+    ∷ record { number = 0; shown = asksFor (readRequest []); told = asksFor none }
     ∷ record {
       number = 0;
-      shown = writes (SHAPE ∷ DAMAGED ∷ VERSION ∷ RULE ∷ NO_ROOM ∷ TOO_DEEP ∷ FRAME ∷ BATCH ∷ COUNT ∷ DIGIT ∷ KIND ∷ RANGE ∷ ZERO ∷ SUM ∷ EDIT ∷ []);
-      told = writes (1 ∷ 2 ∷ 3 ∷ 4 ∷ 5 ∷ 6 ∷ 7 ∷ 8 ∷ 9 ∷ 10 ∷ 11 ∷ 12 ∷ 13 ∷ 14 ∷ 16 ∷ []);
+      shown = sends (wanted (asked lines) 0 (frames 7 (version (heap before) 0) (version (heap before) 1)));
+      told = sends (record { batch = 7; index = 0; count = 2; kind = 1; key = 2; value = 4294967295 } ∷ []);
+    }
+    ∷ record { number = 0; shown = sends (wanted (asked lines) 0 (frames 7 three apart)); told = sends (nothing 7 ∷ []) }
+    ∷ record {
+      number = 0;
+      shown = writes (SHAPE ∷ DAMAGED ∷ VERSION ∷ RULE ∷ NO_ROOM ∷ TOO_DEEP ∷ FRAME ∷ BATCH ∷ COUNT ∷ DIGIT ∷ KIND ∷ RANGE ∷ ZERO ∷ SUM ∷ REQUEST ∷ EDIT ∷ []);
+      told = writes (1 ∷ 2 ∷ 3 ∷ 4 ∷ 5 ∷ 6 ∷ 7 ∷ 8 ∷ 9 ∷ 10 ∷ 11 ∷ 12 ∷ 13 ∷ 14 ∷ 15 ∷ 16 ∷ []);
     }
     ∷ record { number = 0; shown = writes (freshBlock 32); told = writes (32 ∷ replicate 273 0) }
     ∷ record { number = 0; shown = stands (version (heap amid) 0); told = stands (node 4 1 10 leaf (node 3 2 4294967295 leaf leaf)) }
@@ -235,5 +263,5 @@ table =
 
 -- every case shows what document 01 says
 pub worked-cases : map (λ (c : Case). c .shown) table ≡ map (λ (c : Case). c .told) table
-unfolding table shape keys occurs supplyBeside built size idOf lookup entries firstOf afterFirst isNone among next taken back given freeFrom twice rotateLeft rotateRight balanced insertBy insert removeMin withoutKey removePresent remove editBy batchRule join split unionBy union rest difference mergeBy diffBy turn tooDeep walk listing changed puts removes delta digit value digits number line kindLegal legal fields firstBad judged read parse frameOf numbered framesOf freshBlock rowWords laid load tree before amid
+unfolding table shape keys occurs supplyBeside built size idOf lookup entries firstOf afterFirst isNone among next taken back given freeFrom twice rotateLeft rotateRight balanced insertBy insert removeMin withoutKey removePresent remove editBy batchRule join split unionBy union rest difference mergeBy diffBy turn tooDeep walk listing changed puts removes delta digit value digits number line kindLegal legal fields firstBad judged read parse frameOf numbered framesOf freshBlock rowWords laid begun runLine placed requestLines inFront unheard missingRuns requestOf lastOf asks asked inPlace rightKind ascend saysComplete wellFormed cutting sixFields allFields readRequest wanted load tree before amid
 worked-cases = refl

@@ -71,7 +71,7 @@ pub record Listed (b : List ℕ) (p : Pieces) : Type 0 where
   pub shallow : p .deep ≡ false
 
 -- a refusal's number is not 0
-refused : {n : ℕ} {r : Report} → r ≡ record { number = suc n; written = 0; total = 0 } → r .number ≡ 0 → ⊥
+pub refused : {n : ℕ} {r : Report} → r ≡ record { number = suc n; written = 0; total = 0 } → r .number ≡ 0 → ⊥
 refused {n} e z = let k : suc n ≡ 0 = sym (ap (λ (x : Report). x .number) e) ∙ z in omega arith
 
 module _ (p : Pieces) (W : Wide (p .width) (p .pieces)) (out after : List ℕ) (start : ℕ) where
@@ -92,7 +92,7 @@ module _ (p : Pieces) (W : Wide (p .width) (p .pieces)) (out after : List ℕ) (
       let c = laid-cut (p .width) q n i (drop (length cut) out) (wide-drop (p .width) start (p .pieces) W) h (omega arith) in
       (omega (arith, length-drop start (p .pieces)), rw k (rw (take-min (length out / p .width) q, getD-drop start (p .pieces) i []) at c))
 
-  written : (r : Report) → r ≡ record { number = 0; written = length cut; total = length (p .pieces) } → after ≡ over cut out → Written p out after start r
+  pub written : (r : Report) → r ≡ record { number = 0; written = length cut; total = length (p .pieces) } → after ≡ over cut out → Written p out after start r
   written r e k =
       let w : r .written ≡ length cut = ap (λ (x : Report). x .written) e in
       record {

@@ -62,6 +62,15 @@ pub mod Replicas
 pub mod Receiving
 pub mod Standbys
 pub mod Reading
+-- Asking for lost lines
+pub mod Runs
+pub mod Requests
+pub mod RequestLines
+pub mod RequestRules
+pub mod Resends
+pub mod Repairs
+pub mod Rounds
+pub mod RequestNumbers
 pub mod Possible
 -- The calls
 pub mod Checks

@@ -96,7 +96,7 @@ pub read-fields : (cs : List ℕ) (f : Frame) → Read cs f → fields cs ≡ so
 unfolding fields
 read-fields cs f r = rw (r .batch, fields) (rw (r .index) (rw (r .count) (rw (r .kind) (rw (r .key) (rw (r .value))))))
 
-bind-some : {A B : Type 0} (x : Option A) (g : A → Option B) (b : B) → (x >>= g) ≡ some b → (a : A) × (x ≡ some a) × (g a ≡ some b)
+pub bind-some : {A B : Type 0} (x : Option A) (g : A → Option B) (b : B) → (x >>= g) ≡ some b → (a : A) × (x ≡ some a) × (g a ≡ some b)
 bind-some none g b e = let z : _≡_ {A = ℕ} 0 1 = cc e in absurd (omega arith)
 bind-some (some a) g b e = (a, refl, e)
 
@@ -207,23 +207,34 @@ good-parse cs f = (to (read cs) refl, λ e. rw (e, parse))
     to (good g) e p = let s : g ≡ f = cc (rw (e, parse) at p) in e ∙ ap good s
     to (fault n p) e q = let z : _≡_ {A = ℕ} 0 1 = cc (rw (e, parse) at q) in absurd (omega arith)
 
--- a legal frame that fits is read from its line
-pub parse-line : (f : Frame) → legal f ≡ true → Fitting f → parse (line f) ≡ some f
-unfolding line digits
-parse-line f l h = good-parse (line f) f .1 (read-good (line f) (record { long = refl; newline = refl }) (read-fields (line f) f r) l)
-  where
-    k : Legal f
-    k = legal-says f l
+-- every field fits its digits
+pub record Fits (f : Frame) : Type 0 where
+  pub index : f .index < 65536
+  pub count : f .count < 65536
+  pub kind : f .kind < 256
+  pub wide : Fitting f
 
+-- a frame whose fields fit has a line that gives them back
+pub line-fields : (f : Frame) → Fits f → Closed (line f) × (fields (line f) ≡ some f)
+unfolding line digits
+line-fields f h = (record { long = refl; newline = refl }, read-fields (line f) f r)
+  where
     r : Read (line f) f
     r = record {
-      batch = number-digits 8 (f .batch) (h .batch);
-      index = number-digits 4 (f .index) (omega (arith, k .most, k .below));
-      count = number-digits 4 (f .count) (omega (arith, k .most));
-      kind = number-digits 2 (f .kind) (omega (arith, k .kind .known));
-      key = number-digits 8 (f .key) (h .key);
-      value = number-digits 8 (f .value) (h .value);
+      batch = number-digits 8 (f .batch) (h .wide .batch);
+      index = number-digits 4 (f .index) (h .index);
+      count = number-digits 4 (f .count) (h .count);
+      kind = number-digits 2 (f .kind) (h .kind);
+      key = number-digits 8 (f .key) (h .wide .key);
+      value = number-digits 8 (f .value) (h .wide .value);
     }
+
+-- a legal frame that fits is read from its line
+pub parse-line : (f : Frame) → legal f ≡ true → Fitting f → parse (line f) ≡ some f
+parse-line f l h =
+    let k = legal-says f l in
+    let r = line-fields f (record { index = omega (arith, k .most, k .below); count = omega (arith, k .most); kind = omega (arith, k .kind .known); wide = h }) in
+    good-parse (line f) f .1 (read-good (line f) (r .0) (r .1) l)
 
 -- the line is its fields and the newline
 cut-line : (cs : List ℕ) → length cs ≡ 35 → getD cs 34 0 ≡ 10
@@ -236,22 +247,27 @@ digits-field cs at k n h e =
     let l : length (take k (drop at cs)) ≡ k = length-take-le k (drop at cs) (omega (arith, length-drop at cs)) in
     rw l at (digits-number (take k (drop at cs)) n e)
 
+-- the fields are read from no other line
+pub fields-line : (cs : List ℕ) (f : Frame) → Closed cs → fields cs ≡ some f → (cs ≡ line f) × Fits f
+unfolding line
+fields-line cs f C e =
+    let r = fields-read cs f e in
+    let l = C .long in
+    let batch = digits-field cs 0 8 (f .batch) (omega arith) (r .batch) in
+    let index = digits-field cs 8 4 (f .index) (omega arith) (r .index) in
+    let count = digits-field cs 12 4 (f .count) (omega arith) (r .count) in
+    let kind = digits-field cs 16 2 (f .kind) (omega arith) (r .kind) in
+    let key = digits-field cs 18 8 (f .key) (omega arith) (r .key) in
+    let value = digits-field cs 26 8 (f .value) (omega arith) (r .value) in
+    (
+      cut-line cs l (C .newline) ∙ rw (batch .0, index .0, count .0, kind .0, key .0, value .0),
+      record { index = index .1; count = count .1; kind = kind .1; wide = record { batch = batch .1; key = key .1; value = value .1 } },
+    )
+
 -- parse takes nothing but the line of a legal frame that fits
 pub parse-only : (cs : List ℕ) (f : Frame) → parse cs ≡ some f → (cs ≡ line f) × (legal f ≡ true) × Fitting f
-unfolding line
 parse-only cs f e = go (read cs) (way cs) (good-parse cs f .0 e)
   where
-    cut : Closed cs → legal f ≡ true → Read cs f → (cs ≡ line f) × (legal f ≡ true) × Fitting f
-    cut C k r =
-        let l = C .long in
-        let batch = digits-field cs 0 8 (f .batch) (omega arith) (r .batch) in
-        let index = digits-field cs 8 4 (f .index) (omega arith) (r .index) in
-        let count = digits-field cs 12 4 (f .count) (omega arith) (r .count) in
-        let kind = digits-field cs 16 2 (f .kind) (omega arith) (r .kind) in
-        let key = digits-field cs 18 8 (f .key) (omega arith) (r .key) in
-        let value = digits-field cs 26 8 (f .value) (omega arith) (r .value) in
-        (cut-line cs l (C .newline) ∙ rw (batch .0, index .0, count .0, kind .0, key .0, value .0), k, record { batch = batch .1; key = key .1; value = value .1 })
-
     bad : {n p : ℕ} → fault n p ≡ good f → ⊥
     bad q = let z : _≡_ {A = ℕ} 0 1 = cc q in omega arith
 
@@ -260,4 +276,4 @@ parse-only cs f e = go (read cs) (way cs) (good-parse cs f .0 e)
     go r (unread C u) q = absurd (bad q)
     go r (unknown C g u h) q = absurd (bad q)
     go r (unruly C g u h l) q = absurd (bad q)
-    go r (whole C g u l) q = let s : g ≡ f = cc q in cut C (ap legal (sym s) ∙ l) (fields-read cs f (u ∙ ap some s))
+    go r (whole C g u l) q = let s : g ≡ f = cc q in let w = fields-line cs f C (u ∙ ap some s) in (w .0, ap legal (sym s) ∙ l, w .1 .wide)

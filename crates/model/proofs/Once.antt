@@ -2,6 +2,7 @@
 use mathlib.Core.Path.{_≡_, sym, _∙_}
 use Prim.Native.Nat.{ℕ}
 use mathlib.Core.Bool.{Bool, true, false}
+use mathlib.Core.Option.{Option, none, some}
 use mathlib.Core.List.{List}
 use Rattle.model.specs.Block.{Words}
 use Rattle.model.specs.Calls.{Check, fails, passes, Checked, Answer, Edit, Reads, Edits, Fresh}
@@ -10,6 +11,7 @@ use Rattle.model.specs.Inbox.{heardAt}
 use Rattle.model.specs.Lists.{Report, Pieces, Lists}
 use Rattle.model.specs.Lists as lists
 use Rattle.model.specs.Link.{Parse, CheckedInbox, Begin, Missing, Heard, Step, unchanged, Takes, Says, Receive}
+use Rattle.model.specs.Request.{readRequest, Ask, Primary, Sends, Resend}
 use Rattle.model.proofs.Pinned.{edited-once}
 
 -- a check goes one way
@@ -57,6 +59,24 @@ same-once b from to r s A C = check-once A C one (λ A C. check-once A C one (λ
   where
     one : {x : Answer} → r ≡ x → s ≡ x → r ≡ s
     one p q = p ∙ sym q
+
+-- the calls that ask for lost lines, and send them
+module _ (out x y : List ℕ) (start : ℕ) (a c : Report) where
+  abbrev One : Type 0
+  One = (a ≡ c) × (x ≡ y)
+
+  one : {r : Report} {z : List ℕ} → (a ≡ r) × (x ≡ z) → (c ≡ r) × (y ≡ z) → One
+  one f g = (f .0 ∙ sym (g .0), f .1 ∙ sym (g .1))
+
+  pub ask-once : (inbox : List ℕ) → Ask inbox out x start a → Ask inbox out y start c → One
+  ask-once inbox A C = check-once A C one (λ A C. check-once A C one one)
+
+  sends-once : (p : Primary) (o : Option (List Frame)) → Sends p o out x start a → Sends p o out y start c → One
+  sends-once p none A C = one A C
+  sends-once p (some fs) A C = check-once A C one (λ A C. check-once A C one one)
+
+  pub resend-once : (p : Primary) (request : List ℕ) → Resend p request out x start a → Resend p request out y start c → One
+  resend-once p request A C = check-once A C one (λ A C. check-once A C one (λ A C. check-once A C one (sends-once p (readRequest request))))
 
 -- the calls of the link
 

@@ -1,8 +1,8 @@
--- The premises of `standby-replicates` (Standbys) can be met: by a put and a remove that carry one small block to the next, and, whatever the block, by the one frame "nothing".
+-- The premises of `standby-replicates` (Standbys) can be met: by a put and a remove that carry one small block to the next, also with a request between them, and, whatever the block, by the one frame "nothing".
 use mathlib.Core.Path.{_≡_, refl, ap, sym, subst, _∙_}
 use mathlib.Core.Logic.{_≢_, inl, inr}
 use Prim.Native.Nat.{ℕ, zero, suc, _^_, _<_, compare, Ordering, Ordering·lt, Ordering·eq, Ordering·gt}
-use mathlib.Core.Bool.{false}
+use mathlib.Core.Bool.{true, false, false≢true}
 use mathlib.Core.Option.{some}
 use mathlib.Core.List.{List, [], _∷_}
 use lib.ListN.{length}
@@ -20,12 +20,14 @@ use Rattle.model.specs.Inbox.{heardAt, SoundInbox, begun, marked, missin
 use Rattle.model.specs.Calls.{passes, Edited}
 use Rattle.model.specs.Link.{Step, frameRule, Takes, Says, Receive}
 use Rattle.model.specs.Replica.{NoZeroSent, Elsewhere, Hearing, still, then, Each, Some, Took, Genuine, Replicated}
+use Rattle.model.specs.Request.{runLine, placed, requestLines, inFront, unheard, missingRuns, requestOf, lastOf, asks, asked, Arrives, Repaired}
 use Rattle.model.proofs.Turns.{same-lists-nothing}
 use Rattle.model.proofs.Growing.{stocked-supply}
 use Rattle.model.proofs.Lines.{good-parse, parse-line}
 use Rattle.model.proofs.Heard.{Markable, begun-batch, begun-count, begun-sound, begun-heard, marked-batch, marked-count, marked-sound, marked-other}
 use Rattle.model.proofs.Receiving.{Belongs}
 use Rattle.model.proofs.Standbys.{standby-replicates}
+use Rattle.model.proofs.Repairs.{repair-ends}
 use Rattle.model.proofs.Small.{before, amid, done, before-sound, amid-sound, done-sound, before-trees, amid-trees, done-trees, amid-others, done-others}
 
 -- a host that does nothing
@@ -69,6 +71,9 @@ none-zero k e = go (compare k 2) refl
     go Ordering·lt p = let z : _≡_ {A = ℕ} 0 1 = cc (rw (p, find) at e) in omega arith
     go Ordering·eq p = let z : _≡_ {A = ℕ} 4294967295 0 = cc (rw (p, find) at e) in omega arith
     go Ordering·gt p = let z : _≡_ {A = ℕ} 0 1 = cc (rw (p, find) at e) in omega arith
+
+no-zero : NoZeroSent (version (heap before) 0) (version (heap before) 1)
+no-zero k e = absurd (none-zero k (rw (before-trees .1) at e))
 
 put-said : parse (line putting) ≡ some putting
 unfolding legal kindLegal
@@ -115,9 +120,6 @@ replication-happens = (R, C, R .equal C)
     genuine : Each (Genuine (frames 7 (version (heap before) 0) (version (heap before) 1))) run
     genuine = rw (carried .0) ((λ z. (0, omega arith, put-said)), ((λ z. (1, omega arith, remove-said)), tt))
 
-    no-zero : NoZeroSent (version (heap before) 0) (version (heap before) 1)
-    no-zero k e = absurd (none-zero k (rw (before-trees .1) at e))
-
     R : Replicated (version (heap before) 0) (version (heap before) 1) 7 0 run
     R = standby-replicates before before-sound 0 1 7 (omega arith) (omega arith) (omega arith) (carried .1) before before-sound 0 (omega arith) refl run genuine no-zero
 
@@ -131,6 +133,36 @@ replication-happens = (R, C, R .equal C)
 
     C : Complete whole
     C = R .complete .1 accepted
+
+-- The same with a repair between the two lines.
+
+half-run : Hearing (Elsewhere 0) 0 before (begun 7) (line putting ∷ []) amid half
+half-run = then _ rests put-received still
+
+rest-run : Hearing (Elsewhere 0) 0 amid half (line removing ∷ []) done whole
+rest-run = then _ rests remove-received still
+
+-- a standby that heard the put alone asks for frame 1, hears it, and is complete: the premises of `repair-ends` (Repairs) hold of it
+pub repair-happens : (requestOf half ≡ record { batch = 7; index = 0; count = 1; kind = 16; key = 1; value = 0 } ∷ []) × Repaired (version (heap before) 1) 0 done whole
+unfolding Each Some half-run rest-run begun marked runLine placed requestLines inFront unheard missingRuns requestOf lastOf asks asked
+repair-happens = (asks-one, repair-ends before before-sound 0 1 7 (omega arith) (omega arith) (omega arith) (carried .1) before before-sound 0 (omega arith) refl half-run before-request no-zero rest-run after-request arrive)
+  where
+    asks-one : requestOf half ≡ record { batch = 7; index = 0; count = 1; kind = 16; key = 1; value = 0 } ∷ []
+    asks-one = refl
+
+    before-request : Each (Genuine (frames 7 (version (heap before) 0) (version (heap before) 1))) half-run
+    before-request = rw (carried .0) ((λ z. (0, omega arith, put-said)), tt)
+
+    after-request : Each (Genuine (frames 7 (version (heap before) 0) (version (heap before) 1))) rest-run
+    after-request = rw (carried .0) ((λ z. (1, omega arith, remove-said)), tt)
+
+    arrive : (i : ℕ) → i < length (frames 7 (version (heap before) 0) (version (heap before) 1)) → asked (requestOf half) i ≡ true → Some (Arrives (frames 7 (version (heap before) 0) (version (heap before) 1)) i) rest-run
+    arrive i h a = rw (carried .0) (go i (rw (carried .0) at h) a)
+      where
+        go : (i : ℕ) → i < 2 → asked (requestOf half) i ≡ true → Some (Arrives (putting ∷ removing ∷ []) i) rest-run
+        go zero h a = absurd (false≢true a)
+        go (suc zero) h a = inl ((λ e. omega (arith, e)), remove-said)
+        go (suc (suc i)) h a = absurd (omega arith)
 
 -- "Nothing", whatever the block.
 

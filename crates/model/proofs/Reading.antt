@@ -69,7 +69,7 @@ module _ {b : List ℕ} (B : SoundBlock b) (W : Words b) where
     find-small u k v lt e = found-small (entries (version (heap b) u)) k v (entry-small (heap b .root u) (L .roots u lt)) e
 
     -- a change's key and value come from words of the block
-    change-small : deltaDeep A C ≡ false → (i : ℕ) → i < length (delta A C) → Narrow (changeAt (delta A C) i)
+    pub change-small : deltaDeep A C ≡ false → (i : ℕ) → i < length (delta A C) → Narrow (changeAt (delta A C) i)
     change-small d i h = go (changeAt (delta A C) i .now) refl (find (entries A) (changeAt (delta A C) i .key)) refl
       where
         O : OneHeap A C

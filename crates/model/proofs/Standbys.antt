@@ -112,13 +112,13 @@ module _ {batch : ℕ} {es fs : List Entry} {cs : List Change} (D : Sending batc
     }
 
   -- lines heard from b and x to c and y
-  record Kept (x : List ℕ) {b : List ℕ} {lines : List (List ℕ)} {c y : List ℕ} (run : Hearing (Elsewhere v) v b x lines c y) : Type 0 where
-    follows : Following c y
-    sound : SoundBlock c
-    answers : NoZeroPut → Each (Heeded sent v) run
-    heard : (i : ℕ) → i < length sent → (heardAt y i ≡ true) ↔ ((heardAt x i ≡ true) ⊎ Some (Took sent i) run)
+  pub record Kept (x : List ℕ) {b : List ℕ} {lines : List (List ℕ)} {c y : List ℕ} (run : Hearing (Elsewhere v) v b x lines c y) : Type 0 where
+    pub follows : Following c y
+    pub sound : SoundBlock c
+    pub answers : NoZeroPut → Each (Heeded sent v) run
+    pub heard : (i : ℕ) → i < length sent → (heardAt y i ≡ true) ↔ ((heardAt x i ≡ true) ⊎ Some (Took sent i) run)
 
-  kept-run : {b x : List ℕ} {lines : List (List ℕ)} {c y : List ℕ} (run : Hearing (Elsewhere v) v b x lines c y) → SoundBlock b → Following b x → Each (Genuine sent) run → Kept x run
+  pub kept-run : {b x : List ℕ} {lines : List (List ℕ)} {c y : List ℕ} (run : Hearing (Elsewhere v) v b x lines c y) → SoundBlock b → Following b x → Each (Genuine sent) run → Kept x run
   unfolding Each Some
   kept-run still B F G = record { follows = F; sound = B; answers = λ worth. tt; heard = λ i l. ((λ h. inl h), (λ h. ⊎-elim (λ p. p) (λ p. absurd p) h)) }
   kept-run (then {x = x} {a = a} {b′ = b′} {x′ = x′} {line = line} answer H R later) B F G =
@@ -144,7 +144,7 @@ some-took fs i zero still t = t
 some-took fs i zero {v = v} (then {line = line} answer h r later) t = ⊎-elim (λ p. zero-refused _ v line (frameAt fs i) r (p .1) zero (p .0)) (some-took fs i zero later) t
 
 -- the delta of two versions is what a batch may send
-versions-sent : {b : List ℕ} → SoundBlock b → (A B batch : ℕ) → A < 16 → B < 16 → batch < 2 ^ 32 → deltaDeep (version (heap b) A) (version (heap b) B) ≡ false
+pub versions-sent : {b : List ℕ} → SoundBlock b → (A B batch : ℕ) → A < 16 → B < 16 → batch < 2 ^ 32 → deltaDeep (version (heap b) A) (version (heap b) B) ≡ false
     → Sending batch (entries (version (heap b) A)) (entries (version (heap b) B)) (delta (version (heap b) A) (version (heap b) B))
 versions-sent {b} P A B batch la lb fits shallow = record {
   number = fits;
@@ -153,6 +153,23 @@ versions-sent {b} P A B batch la lb fits shallow = record {
   after = ordered-sorted (version (heap b) B) (version-ordered (P .sound) B lb);
   carries = delta-carries (version (heap b) A) (version (heap b) B) (versions-one-heap (heap b) (P .sound) A B la lb) shallow;
 }
+
+-- where no zero is sent no frame puts one: a change differs from A, so it sets no zero that A has
+pub none-puts-zero : {b : List ℕ} (P : SoundBlock b) (A B batch : ℕ) (la : A < 16) (lb : B < 16) → batch < 2 ^ 32 → deltaDeep (version (heap b) A) (version (heap b) B) ≡ false
+    → NoZeroSent (version (heap b) A) (version (heap b) B) → (i : ℕ) → i < length (frames batch (version (heap b) A) (version (heap b) B)) → ¬ PutsZero (frameAt (frames batch (version (heap b) A) (version (heap b) B)) i)
+none-puts-zero {b} P A B batch la lb fits shallow worth i h p = go (frames-set batch (delta a z) i 0 h .0 p)
+  where
+    a : Tree
+    a = version (heap b) A
+
+    z : Tree
+    z = version (heap b) B
+
+    go : (i < length (delta a z)) × (changeAt (delta a z) i .now ≡ some 0) → ⊥
+    go (l, e) =
+        let c = changeAt (delta a z) i in
+        let there : find (entries z) (c .key) ≡ some 0 = sym (versions-sent P A B batch la lb fits shallow .carries .right i l) ∙ e in
+        delta-keys a z (versions-one-heap (heap b) (P .sound) A B la lb) shallow (c .key) .0 (c, in-at (delta a z) _ i l, refl) (worth (c .key) there ∙ sym there)
 
 module _ (primary : List ℕ) (P : SoundBlock primary) (A B batch : ℕ) (la : A < 16) (lb : B < 16) (fits : batch < 2 ^ 32) (shallow : deltaDeep (version (heap primary) A) (version (heap primary) B) ≡ false)
     (b : List ℕ) (S : SoundBlock b) (v : ℕ) (lt : v < 16) (holds : entries (version (heap b) v) ≡ entries (version (heap primary) A))
@@ -181,17 +198,10 @@ module _ (primary : List ℕ) (P : SoundBlock primary) (A B batch : ℕ) (la : A
     reports = λ n m M. let e = missing-answers y n m (K .follows .sound) M in (e, missing-complete y m (subst (λ (k : ℕ). Missing y k m) e M));
     equal = complete-entries D (K .follows);
     between = K .follows .between;
-    answers = K .answers (λ i l p. put-no-zero i (frames-set batch (delta a z) i 0 l .0 p));
+    answers = K .answers (none-puts-zero P A B batch la lb fits shallow worth);
     sound-block = K .sound;
     sound-inbox = K .follows .sound;
   }
-    where
-      -- a change differs from A, so it sets no zero that A has
-      put-no-zero : (i : ℕ) → (i < length (delta a z)) × (changeAt (delta a z) i .now ≡ some 0) → ⊥
-      put-no-zero i (l, e) =
-          let c = changeAt (delta a z) i in
-          let there : find (entries z) (c .key) ≡ some 0 = sym (D .carries .right i l) ∙ e in
-          delta-keys a z (versions-one-heap (heap primary) (P .sound) A B la lb) shallow (c .key) .0 (c, in-at (delta a z) _ i l, refl) (worth (c .key) there ∙ sym there)
 
   -- The premise is needed: where B holds a zero that A lacks, its line is never accepted, so the standby never becomes complete.
   pub zero-never-complete : (k : ℕ) → find (entries z) k ≡ some 0 → find (entries a) k ≢ some 0 → Complete y → ⊥

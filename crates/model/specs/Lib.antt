@@ -15,4 +15,5 @@ pub mod Calls
 pub mod Batch
 pub mod Lists
 pub mod Link
+pub mod Request
 pub mod Replica

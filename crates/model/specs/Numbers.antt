@@ -57,6 +57,10 @@ ZERO = 13
 abbrev pub SUM : ℕ
 SUM = 14
 
+-- a request is not well formed
+abbrev pub REQUEST : ℕ
+REQUEST = 15
+
 -- more than 512 records, a record of an unknown kind, or words that are no whole records
 abbrev pub EDIT : ℕ
 EDIT = 16

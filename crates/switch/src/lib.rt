@@ -4,6 +4,7 @@ ghost use Rattle.model.specs.Batch.{BatchWords};
 ghost use Rattle.model.specs.Frame.{read};
 ghost use Rattle.model.specs.Lists.{Lists, listed, framed, Same};
 ghost use Rattle.model.specs.Link.{Parse, Begin, Missing, Receive};
+ghost use Rattle.model.specs.Request.{Ask, Resend};
 ghost use Rattle.ledger.specs.Ledger as totals;
 ghost use Rattle.switch.specs.Cancels.{ruleFor};
 ghost use lib.Dec.{eqb};
@@ -286,6 +287,44 @@ pub extern "C" fn ksk_missing(inbox: &[u32], missing: &mut u32) -> u32
 {
     let a = inbox::question(inbox);
     *missing = a.missing;
+    a.number
+}
+
+// The lines that ask for what the inbox misses, from index start on.
+#[no_mangle]
+pub extern "C" fn ksk_ask(
+    inbox: &[u32],
+    start: u32,
+    out: &mut [u8],
+    written: &mut u32,
+    total: &mut u32,
+) -> u32
+    ensures { λ r. ⌜ Ask (now (inbox .entry)) (now (out .entry)) (now (out .exit)) start (record { number = r; written = now (written .exit); total = now (total .exit) }) ⌝ }
+{
+    let a = lists::ask::ask(inbox, start, out);
+    *written = a.written;
+    *total = a.total;
+    a.number
+}
+
+// The lines that a request asks for, from index start on.
+#[no_mangle]
+pub extern "C" fn ksk_resend(
+    block: &[u32],
+    from: u32,
+    to: u32,
+    batch: u32,
+    request: &[u8],
+    start: u32,
+    out: &mut [u8],
+    written: &mut u32,
+    total: &mut u32,
+) -> u32
+    ensures { λ r. ⌜ Resend (record { block = now (block .entry); from = from; to = to; batch = batch }) (now (request .entry)) (now (out .entry)) (now (out .exit)) start (record { number = r; written = now (written .exit); total = now (total .exit) }) ⌝ }
+{
+    let a = lists::resend::resend(block, from, to, batch, request, start, out);
+    *written = a.written;
+    *total = a.total;
     a.number
 }
 

@@ -1,13 +1,13 @@
 //! Compares the exported calls with the original and with documents 01 and 02. Usage: compare [seed] [times]
 
 use oracle::exports::{ANSWERS, NUMBERS};
-use oracle::parts::{batch, cases, damage, drift, exhaustive, held, histories, ledger, limits, lines, link, room, sums, uneven, zeros, Compared, Effort};
+use oracle::parts::{batch, cases, damage, drift, exhaustive, held, histories, ledger, limits, lines, link, repair, room, sums, uneven, zeros, Compared, Effort};
 use std::process::ExitCode;
 use std::sync::atomic::{AtomicUsize, Ordering};
 use std::thread;
 use std::time::Instant;
 
-const PARTS: [(&str, fn(Effort) -> Compared); 20] = [
+const PARTS: [(&str, fn(Effort) -> Compared); 21] = [
     ("worked cases of document 01", cases::worked),
     ("fresh blocks at every N", limits::fresh),
     ("inboxes: begin and missing", limits::inboxes),
@@ -26,6 +26,7 @@ const PARTS: [(&str, fn(Effort) -> Compared); 20] = [
     ("same entries or not", drift::all),
     ("damaged and cut blocks and inboxes", damage::refusals),
     ("links with loss, repeats and delay", link::sent),
+    ("lost lines: asked for and sent again", repair::all),
     ("minutes held: bounds and damaged sums", held::all),
     ("ledgers", ledger::all),
 ];
@@ -75,7 +76,7 @@ fn main() -> ExitCode {
     println!("seed {}, {} times", effort.seed, effort.times);
     let (passed, mut failed) = compared(effort);
     let answers = NUMBERS.map(|number| ANSWERS[number].load(Ordering::Relaxed));
-    println!("answers by number, 0 to 14 and 16: {answers:?}");
+    println!("answers by number, 0 to 16: {answers:?}");
     if answers.contains(&0) {
         failed += 1;
         println!("FAILED: a number was never answered");

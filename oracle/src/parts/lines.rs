@@ -2,7 +2,7 @@
 //! several checks failing at once. What is told is the first fault of the line, and a bad digit's place with it.
 
 mod met;
-mod planted;
+pub mod planted;
 mod several;
 mod standby;
 

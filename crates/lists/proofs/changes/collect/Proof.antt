@@ -3,8 +3,8 @@ use borrow.Author.Needs.{needs}
 use native.Mathlib.Omega.{arith}
 use Rattle.model.proofs.Versions.{version-named}
 use Rattle.lists.proofs.Collecting.{First, Second, first-walk, second-walk, first-deep, first-few, first-long, second-deep, collected}
-use Rattle.lists.proofs.lines.collect.Statement.{statement}
-use Rattle.lists.proofs.lines.collect.Tie as tie
+use Rattle.lists.proofs.changes.collect.Statement.{statement}
+use Rattle.lists.proofs.changes.collect.Tie as tie
 
 abbrev start-of : tie.After-root2 → tie.Start
 start-of c = c .before .before .before .before

@@ -1,8 +1,8 @@
 -- A count that is not 0 stays.
 use borrow.Author.Needs.{needs}
 use Rattle.lists.proofs.Framing.{some-are}
-use Rattle.lists.proofs.lines.at_least_one.Statement.{statement}
-use Rattle.lists.proofs.lines.at_least_one.Tie as tie
+use Rattle.lists.proofs.changes.at_least_one.Statement.{statement}
+use Rattle.lists.proofs.changes.at_least_one.Tie as tie
 
 returns : tie.Need-returns
 returns c = search needs

@@ -2,8 +2,8 @@
 use borrow.Author.Needs.{needs}
 use native.Mathlib.Omega.{arith}
 use Rattle.lists.proofs.Framing.{some-are, one-few, frame-none, frame-put, frame-remove}
-use Rattle.lists.proofs.lines.frame_at.Statement.{statement}
-use Rattle.lists.proofs.lines.frame_at.Tie as tie
+use Rattle.lists.proofs.changes.frame_at.Statement.{statement}
+use Rattle.lists.proofs.changes.frame_at.Tie as tie
 
 returns : tie.Need-returns
 returns c = let a = c .before .before .args in frame-none (a .batch) (a .puts) (a .changes .now) (a .i) (a .count) (c .if1 .taken)

@@ -1,0 +1,111 @@
+-- A request's lines, one after another: what a test of all of them says, told by the line that is read and the lines behind it.
+use mathlib.Core.Path.{_≡_, refl, ap, sym, _∙_}
+use mathlib.Core.Logic.{_≢_}
+use Prim.Native.Nat.{ℕ, suc, _+_, _-_, _*_, _≤_, _<_}
+use mathlib.Core.Bool.{Bool, true, false}
+use mathlib.Core.Option.{Option, none, some}
+use mathlib.Core.List.{List, [], _∷_}
+use native.Mathlib.Omega.{arith}
+use lib.ListN.{length, getD, take, drop, length-drop}
+use lib.Seq.{length-take-le, getD-take, getD-drop, drop-drop}
+use borrow.Author.Tests.{eq-eqb, ne-eqb}
+use Rattle.model.specs.Frame as model
+use Rattle.model.specs.Frame.{_>>=_, fields, Reading, good, fault}
+use Rattle.model.specs.Request.{cutting, sixFields, allFields}
+use Rattle.frame.specs.declared.Parsed.{Parsed}
+use Rattle.frame.specs.declared.Parsed.the-variants.{Good, Bad}
+use Rattle.frame.specs.Fields.{parsed, fieldsRead}
+use Rattle.requests.specs.Reading.{sixOf, holds}
+
+-- line i of a request
+abbrev pub piece : List ℕ → ℕ → List ℕ
+piece cs i = take 35 (drop (35 * i) cs)
+
+-- the lines from i on
+abbrev pub linesFrom : (n : ℕ) (cs : List ℕ) (i : ℕ) → Option (List model.Frame)
+linesFrom n cs i = allFields (cutting (n - i) (drop (35 * i) cs))
+
+-- the frame of a reading
+abbrev frame-of : Reading → Option model.Frame
+frame-of (good f) = some f
+frame-of (fault n p) = none
+
+six-frame : (r : Parsed) → sixOf r ≡ frame-of (parsed r)
+six-frame (Good f) = refl
+six-frame (Bad f) = refl
+
+read-frame : (cs : List ℕ) → frame-of (fieldsRead cs) ≡ fields cs
+unfolding fieldsRead
+read-frame cs = go (fields cs) refl
+  where
+    go : (o : Option model.Frame) → fields cs ≡ o → frame-of (fieldsRead cs) ≡ fields cs
+    go none e = rw (e, fieldsRead) refl
+    go (some f) e = rw (e, fieldsRead) refl
+
+module _ (cs : List ℕ) (i : ℕ) (h : 35 * i + 35 ≤ length cs) where
+  piece-long : length (piece cs i) ≡ 35
+  piece-long = length-take-le 35 (drop (35 * i) cs) (omega (arith, length-drop (35 * i) cs))
+
+  piece-end : getD (piece cs i) 34 0 ≡ getD cs (35 * i + 34) 0
+  piece-end = getD-take 35 (drop (35 * i) cs) 34 0 (omega arith) ∙ getD-drop (35 * i) cs 34 0
+
+  -- without its newline a line has no fields
+  pub piece-open : (at : ℕ) → at ≡ 35 * i → getD cs (at + 34) 0 ≢ 10 → none ≡ sixFields (piece cs i)
+  unfolding sixFields
+  piece-open at a n = rw (piece-long, piece-end, ne-eqb (getD cs (35 * i + 34) 0) 10 (λ e. n (ap (λ k. getD cs (k + 34) 0) a ∙ e)), sixFields) refl
+
+  -- and with it those that frame reads
+  pub piece-said : (at : ℕ) → at ≡ 35 * i → getD cs (at + 34) 0 ≡ 10 → (r : Parsed) (k : ℕ) → parsed r ≡ fieldsRead (take k (drop at cs)) → k ≡ 35 → sixOf r ≡ sixFields (piece cs i)
+  unfolding sixFields
+  piece-said at a e r k q w =
+      rw (piece-long, piece-end, eq-eqb (getD cs (35 * i + 34) 0) 10 (ap (λ k. getD cs (k + 34) 0) (sym a) ∙ e), sixFields) (six-frame r ∙ ap frame-of q ∙ rw (a, w) (read-frame (piece cs i)))
+
+pieces-next : (n i : ℕ) (cs : List ℕ) → i < n → cutting (n - i) (drop (35 * i) cs) ≡ piece cs i ∷ cutting (n - (i + 1)) (drop (35 * (i + 1)) cs)
+unfolding cutting
+pieces-next n i cs h =
+    let e : n - i ≡ suc (n - (i + 1)) = omega (arith, h) in
+    let s : 35 * i + 35 ≡ 35 * (i + 1) = omega arith in
+    let d : drop 35 (drop (35 * i) cs) ≡ drop (35 * (i + 1)) cs = drop-drop 35 (35 * i) cs ∙ ap (λ k. drop k cs) s in
+    rw e (ap (λ ds. piece cs i ∷ cutting (n - (i + 1)) ds) d)
+
+pub lines-all : (n : ℕ) (cs : List ℕ) → linesFrom n cs 0 ≡ allFields (cutting n cs)
+lines-all n cs = let e : n - 0 ≡ n = omega arith in rw e refl
+
+module _ (n i : ℕ) (cs : List ℕ) (T : List model.Frame → Bool) {g : Bool} (is : holds T (linesFrom n cs i) ≡ g) where
+  -- a piece that is no line
+  pub test-bad : i < n → sixFields (piece cs i) ≡ none → false ≡ g
+  unfolding allFields
+  test-bad h e = sym (rw (pieces-next n i cs h, e) refl) ∙ is
+
+  -- a line that decides
+  pub test-off : i < n → {f : model.Frame} → sixFields (piece cs i) ≡ some f → ((fs : List model.Frame) → T (f ∷ fs) ≡ false) → false ≡ g
+  unfolding allFields
+  test-off h {f} e t = sym (rw (pieces-next n i cs h, e) (go (linesFrom n cs (i + 1)))) ∙ is
+    where
+      go : (m : Option (List model.Frame)) → holds T (m >>= (λ fs. some (f ∷ fs))) ≡ false
+      go none = refl
+      go (some fs) = t fs
+
+  -- a line that leaves it to those behind it
+  pub test-on : i < n → {f : model.Frame} → sixFields (piece cs i) ≡ some f → (U : List model.Frame → Bool) → ((fs : List model.Frame) → T (f ∷ fs) ≡ U fs) → holds U (linesFrom n cs (i + 1)) ≡ g
+  unfolding allFields
+  test-on h {f} e U t = sym (rw (pieces-next n i cs h, e) (go (linesFrom n cs (i + 1)))) ∙ is
+    where
+      go : (m : Option (List model.Frame)) → holds T (m >>= (λ fs. some (f ∷ fs))) ≡ holds U m
+      go none = refl
+      go (some fs) = t fs
+
+  -- no line is left
+  pub test-end : n ≤ i → T [] ≡ true → true ≡ g
+  unfolding allFields cutting
+  test-end h t = let e : n - i ≡ 0 = omega (arith, h) in sym (rw e t) ∙ is
+
+-- one line alone
+module _ (T : List model.Frame → Bool) (cs : List ℕ) where
+  pub only-bad : sixFields (piece cs 0) ≡ none → false ≡ holds T (allFields (cutting 1 cs))
+  unfolding allFields cutting
+  only-bad e = rw e refl
+
+  pub only-good : {f : model.Frame} {b : Bool} → sixFields (piece cs 0) ≡ some f → T (f ∷ []) ≡ b → b ≡ holds T (allFields (cutting 1 cs))
+  unfolding allFields cutting
+  only-good e t = sym t ∙ rw e refl
