@@ -1,17 +1,19 @@
 -- A request's lines, one after another: what a test of all of them says, told by the line that is read and the lines behind it.
 use mathlib.Core.Path.{_≡_, refl, ap, sym, _∙_}
 use mathlib.Core.Logic.{_≢_}
-use Prim.Native.Nat.{ℕ, suc, _+_, _-_, _*_, _≤_, _<_}
+use Prim.Native.Nat.{ℕ, zero, suc, _+_, _-_, _*_, _≤_, _<_}
 use mathlib.Core.Bool.{Bool, true, false}
 use mathlib.Core.Option.{Option, none, some}
 use mathlib.Core.List.{List, [], _∷_}
 use native.Mathlib.Omega.{arith}
-use lib.ListN.{length, getD, take, drop, length-drop}
+use lib.ListN.{length, getD, take, drop, length-take, length-drop}
+use lib.Dec.{leb}
 use lib.Seq.{length-take-le, getD-take, getD-drop, drop-drop}
-use borrow.Author.Tests.{eq-eqb, ne-eqb}
+use borrow.Author.Tests.{eq-eqb, ne-eqb, leb-true, leb-false}
 use Rattle.model.specs.Frame as model
 use Rattle.model.specs.Frame.{_>>=_, fields, Reading, good, fault}
 use Rattle.model.specs.Request.{cutting, sixFields, allFields}
+use Rattle.model.proofs.Lines.{bind-some}
 use Rattle.frame.specs.declared.Parsed.{Parsed}
 use Rattle.frame.specs.declared.Parsed.the-variants.{Good, Bad}
 use Rattle.frame.specs.Fields.{parsed, fieldsRead}
@@ -41,6 +43,10 @@ read-frame cs = go (fields cs) refl
     go : (o : Option model.Frame) → fields cs ≡ o → frame-of (fieldsRead cs) ≡ fields cs
     go none e = rw (e, fieldsRead) refl
     go (some f) e = rw (e, fieldsRead) refl
+
+six-short : (cs : List ℕ) → length cs ≢ 35 → sixFields cs ≡ none
+unfolding sixFields
+six-short cs n = rw (ne-eqb (length cs) 35 n, sixFields) refl
 
 module _ (cs : List ℕ) (i : ℕ) (h : 35 * i + 35 ≤ length cs) where
   piece-long : length (piece cs i) ≡ 35
@@ -109,3 +115,52 @@ module _ (T : List model.Frame → Bool) (cs : List ℕ) where
   pub only-good : {f : model.Frame} {b : Bool} → sixFields (piece cs 0) ≡ some f → T (f ∷ []) ≡ b → b ≡ holds T (allFields (cutting 1 cs))
   unfolding allFields cutting
   only-good e t = sym t ∙ rw e refl
+
+-- lines that were all read, from i on
+module _ (n i : ℕ) (cs : List ℕ) {fs : List model.Frame} (is : linesFrom n cs i ≡ some fs) where
+  pub lines-bad : i < n → sixFields (piece cs i) ≡ none → ⊥
+  unfolding allFields
+  lines-bad h e =
+      let o : linesFrom n cs i ≡ none = rw (pieces-next n i cs h, e) refl in
+      let z : _≡_ {A = ℕ} 0 1 = cc (sym o ∙ is) in
+      omega arith
+
+  pub lines-next : i < n → {f : model.Frame} → sixFields (piece cs i) ≡ some f → (gs : List model.Frame) × (linesFrom n cs (i + 1) ≡ some gs) × (fs ≡ f ∷ gs)
+  unfolding allFields
+  lines-next h {f} e =
+      let o : linesFrom n cs i ≡ (linesFrom n cs (i + 1) >>= (λ gs. some (f ∷ gs))) = rw (pieces-next n i cs h, e) refl in
+      let b = bind-some (linesFrom n cs (i + 1)) (λ gs. some (f ∷ gs)) fs (sym o ∙ is) in
+      (b .0, b .1, cc (b .2))
+
+  pub lines-end : n ≤ i → fs ≡ []
+  unfolding allFields cutting
+  lines-end h =
+      let e : n - i ≡ 0 = omega (arith, h) in
+      let o : linesFrom n cs i ≡ some [] = rw e refl in
+      cc (sym o ∙ is)
+
+-- as many lines are read as there are pieces
+pub lines-count : (n : ℕ) (cs : List ℕ) (fs : List model.Frame) → allFields (cutting n cs) ≡ some fs → length fs ≡ n
+unfolding allFields cutting
+lines-count zero cs fs e = let q : [] ≡ fs = cc e in rw (← q) refl
+lines-count (suc n) cs fs e =
+    let a = bind-some (sixFields (take 35 cs)) _ fs e in
+    let b = bind-some (allFields (cutting n (drop 35 cs))) _ fs (a .2) in
+    let q : a .0 ∷ b .0 ≡ fs = cc (b .2) in
+    ap length (sym q) ∙ ap suc (lines-count n (drop 35 cs) (b .0) (b .1))
+
+-- a short last piece is no line
+pub lines-short : (n : ℕ) (cs : List ℕ) → length cs < 35 * n → allFields (cutting n cs) ≡ none
+unfolding allFields cutting
+lines-short zero cs h = absurd (omega arith)
+lines-short (suc n) cs h = go (leb 35 (length cs)) refl (lines-short n (drop 35 cs))
+  where
+    go : (b : Bool) → leb 35 (length cs) ≡ b → (length (drop 35 cs) < 35 * n → allFields (cutting n (drop 35 cs)) ≡ none) → allFields (cutting (suc n) cs) ≡ none
+    go false e IH =
+        let l : length (take 35 cs) ≢ 35 = λ q. omega (arith, length-take 35 cs, leb-false 35 (length cs) e) in
+        rw (six-short (take 35 cs) l) refl
+    go true e IH = rw (IH (omega (arith, length-drop 35 cs, leb-true 35 (length cs) e))) (unread (sixFields (take 35 cs)))
+      where
+        unread : (o : Option model.Frame) → _>>=_ {B = List model.Frame} o (λ f. none) ≡ none
+        unread none = refl
+        unread (some f) = refl

@@ -1,3 +1,5 @@
 pub mod Judging
 pub mod Cutting
 pub mod Finding
+pub mod Forming
+pub mod Choosing

@@ -38,7 +38,7 @@ returns-2 : tie.Need-returns-2
 returns-2 c = 
     let i = c .before .before .before .before .before .args .i in
     let w : 35 * i + 35 - 35 * i ≡ 35 = omega arith in
-    piece-said _ i (c .before .before .before .before .before .pre) _ refl (c .before .before .if1 .left) _ (35 * i + 35 - 35 * i) (c .fields .ensures) w
+    piece-said _ i (c .before .before .before .before .before .pre) _ refl (c .before .before .if1 .left) (c .fields .result) (35 * i + 35 - 35 * i) (c .fields .ensures) w
 
 pub line-at-spec : {M : Type 1} → statement M
 line-at-spec =

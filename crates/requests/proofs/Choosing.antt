@@ -1,0 +1,290 @@
+-- The indexes that lines ask for, line by line: what the lines so far have chosen and what those behind them ask for is what the request asks for.
+use mathlib.Core.Path.{_≡_, refl, ap, sym, _∙_}
+use mathlib.Core.Logic.{_⊎_, inl, inr, ⊎-elim, _≢_}
+use Prim.Native.Nat.{ℕ, zero, suc, _+_, _-_, _≤_, _<_, min}
+use mathlib.Core.Bool.{Bool, true, false, _&&_, false≢true}
+use mathlib.Core.Option.{Option, none, some}
+use mathlib.Core.List.{List, [], _∷_, _++_, append-assoc, append-nil}
+use native.Mathlib.Omega.{arith}
+use native.Mathlib.Numerals.{add-one}
+use lib.ListN.{length, take, set, length-set}
+use lib.Seq.{length-take-le, take-suc-set}
+use lib.Dec.{eqb, leb}
+use borrow.Author.Tests.{leb-true, leb-false, eqb-true}
+use Rattle.model.specs.Frame as model
+use Rattle.model.specs.Request.{lastOf, inPlace, asks, asked, ascend, saysComplete, wellFormed, cutting, sixFields, allFields}
+use Rattle.model.proofs.Tests.{both, either, not-true}
+use Rattle.model.proofs.Requests.{asks-between, Kinded, right-kinded, Ascends, ascend-says, asked-here, asked-later, complete-asks}
+use Rattle.requests.specs.Reading.{holds, choice, Chooses}
+use Rattle.requests.proofs.Judging.{ascend-end}
+use Rattle.requests.proofs.Cutting.{piece, linesFrom, lines-all, lines-next, lines-bad, lines-end, lines-count}
+
+-- Parts of a choice.
+
+choice-split : (want : ℕ → Bool) (i m n : ℕ) → choice want i (m + n) ≡ choice want i m ++ choice want (i + m) n
+unfolding choice
+choice-split want i zero n =
+    let e : i + 0 ≡ i = omega arith in
+    let z : 0 + n ≡ n = omega arith in
+    rw (e, z) refl
+choice-split want i (suc m) n = go (want i) refl (choice-split want (suc i) m n)
+  where
+    s : suc m + n ≡ suc (m + n)
+    s = omega arith
+
+    e : suc i + m ≡ i + suc m
+    e = omega arith
+
+    go : (b : Bool) → want i ≡ b → choice want (suc i) (m + n) ≡ choice want (suc i) m ++ choice want (suc i + m) n → choice want i (suc m + n) ≡ choice want i (suc m) ++ choice want (i + suc m) n
+    go true q IH = rw (s, q, choice) (ap (λ is. i ∷ is) (IH ∙ rw e refl))
+    go false q IH = rw (s, q, choice) (IH ∙ rw e refl)
+
+choice-same : (v w : ℕ → Bool) (i n : ℕ) → ((j : ℕ) → i ≤ j → j < i + n → v j ≡ w j) → choice v i n ≡ choice w i n
+unfolding choice
+choice-same v w i zero f = refl
+choice-same v w i (suc n) f = go (w i) refl (choice-same v w (suc i) n (λ j l h. f j (omega arith) (omega arith)))
+  where
+    go : (b : Bool) → w i ≡ b → choice v (suc i) n ≡ choice w (suc i) n → choice v i (suc n) ≡ choice w i (suc n)
+    go true q IH = rw (f i (omega arith) (omega arith), q, choice) (ap (λ is. i ∷ is) IH)
+    go false q IH = rw (f i (omega arith) (omega arith), q, choice) IH
+
+choice-false : (i n : ℕ) → choice (λ j. false) i n ≡ []
+unfolding choice
+choice-false i zero = refl
+choice-false i (suc n) = choice-false (suc i) n
+
+-- nothing is wanted
+choice-none : (want : ℕ → Bool) (i n : ℕ) → ((j : ℕ) → i ≤ j → j < i + n → want j ≡ false) → choice want i n ≡ []
+choice-none want i n f = choice-same want (λ j. false) i n f ∙ choice-false i n
+
+-- those below m, and those from m on
+choice-at : (want : ℕ → Bool) (i m end : ℕ) → i ≤ m → choice want i (end - i) ≡ choice want i (min m end - i) ++ choice want m (end - m)
+choice-at want i m end h = go (leb m end) refl
+  where
+    go : (b : Bool) → leb m end ≡ b → choice want i (end - i) ≡ choice want i (min m end - i) ++ choice want m (end - m)
+    go true q =
+        let l : m ≤ end = leb-true m end q in
+        let a : end - i ≡ (m - i) + (end - m) = omega arith in
+        let b : min m end ≡ m = omega arith in
+        let c : i + (m - i) ≡ m = omega arith in
+        rw (a, b) (choice-split want i (m - i) (end - m) ∙ rw c refl)
+    go false q =
+        let l : end < m = leb-false m end q in
+        let b : min m end ≡ end = omega arith in
+        let z : end - m ≡ 0 = omega arith in
+        rw (b, z) (unfold choice in sym (append-nil (choice want i (end - i))))
+
+-- one index more at the end
+choice-next : (i n : ℕ) → choice (λ j. true) i (n + 1) ≡ choice (λ j. true) i n ++ ((i + n) ∷ [])
+unfolding choice
+choice-next i n = choice-split (λ j. true) i n 1
+
+-- the indexes from first on, up to i, stand behind the k words that were chosen before
+pub record Written (k first end : ℕ) (ws vs : List ℕ) (i n : ℕ) : Type 0 where
+  pub low : first ≤ i
+  pub high : i - first ≤ end - first
+  pub count : n ≡ k + (i - first)
+  pub long : length vs ≡ 4096
+  pub same : take n vs ≡ take k ws ++ choice (λ j. true) first (i - first)
+
+pub written-none : (k first end : ℕ) (ws : List ℕ) → length ws ≡ 4096 → Written k first end ws ws first k
+written-none k first end ws l =
+    let z : first - first ≡ 0 = omega arith in
+    record { low = omega arith; high = omega arith; count = omega arith; long = l; same = rw z (unfold choice in sym (append-nil (take k ws))) }
+
+module _ {k first end i n : ℕ} {ws vs : List ℕ} (W : Written k first end ws vs i n) where
+  pub written-more : {m : ℕ} → k ≤ first → end ≤ 4096 → i < end → m ≡ n → Written k first end ws (set vs m i) (i + 1) (n + 1)
+  written-more {m} a b h e = record {
+    low = omega (arith, W .low);
+    high = omega (arith, W .low);
+    count = omega (arith, W .low, W .count);
+    long = length-set vs m i ∙ W .long;
+    same = rw (e, one, add-one n) (take-suc-set vs n i room ∙ rw (W .same, append-assoc) (ap (λ js. take k ws ++ js) last));
+  }
+    where
+      one : i + 1 - first ≡ i - first + 1
+      one = omega (arith, W .low)
+
+      last : choice (λ j. true) first (i - first) ++ (i ∷ []) ≡ choice (λ j. true) first (i - first + 1)
+      last = let here : first + (i - first) ≡ i = omega (arith, W .low) in sym (choice-next first (i - first) ∙ rw here refl)
+
+      room : n < length vs
+      room = omega (arith, W .count, W .low, W .long)
+
+  pub written-all : end ≤ i → (n ≡ k + (end - first)) × (take n vs ≡ take k ws ++ choice (λ j. true) first (end - first))
+  written-all h = let e : end - first ≡ i - first = omega (arith, W .low, W .high) in rw e (W .count, W .same)
+
+-- The lines that are left.
+
+-- what the lines before place i have chosen, k words, and what those from it on ask for, is what all ask for
+pub record Chosen (n : ℕ) (cs : List ℕ) (end i k : ℕ) (ws : List ℕ) : Type 0 where
+  pub least : ℕ
+  pub rest : List model.Frame
+  pub all : List model.Frame
+  pub begun : allFields (cutting n cs) ≡ some all
+  pub left : linesFrom n cs i ≡ some rest
+  pub well : (ascend n i least rest ≡ true) ⊎ (saysComplete rest ≡ true)
+  pub few : k ≤ least
+  pub most : least ≤ 4096
+  pub same : take k ws ++ choice (asked rest) least (end - least) ≡ choice (asked all) 0 end
+
+pub chosen-none : (n : ℕ) (cs : List ℕ) (end : ℕ) (ws : List ℕ) → holds wellFormed (allFields (cutting n cs)) ≡ true → Chosen n cs end 0 0 ws
+chosen-none n cs end ws w = go (allFields (cutting n cs)) refl
+  where
+    z : end - 0 ≡ end
+    z = omega arith
+
+    well : (fs : List model.Frame) → length fs ≡ n → wellFormed fs ≡ true → (ascend n 0 0 fs ≡ true) ⊎ (saysComplete fs ≡ true)
+    well [] l e = unfold wellFormed in absurd (false≢true e)
+    well (f ∷ fs) l e = unfold wellFormed in ⊎-elim (λ c. inr c) (λ a. inl (rw l at a)) (either (saysComplete (f ∷ fs)) (ascend (length (f ∷ fs)) 0 0 (f ∷ fs)) e)
+
+    go : (o : Option (List model.Frame)) → allFields (cutting n cs) ≡ o → Chosen n cs end 0 0 ws
+    go none e = absurd (false≢true (rw e at w))
+    go (some fs) e = record {
+      least = 0;
+      rest = fs;
+      all = fs;
+      begun = e;
+      left = lines-all n cs ∙ e;
+      well = well fs (lines-count n cs fs e) (rw e at w);
+      few = omega arith;
+      most = omega arith;
+      same = rw z refl;
+    }
+
+-- A line in front of others.
+
+complete-eighteen : (f : model.Frame) (fs : List model.Frame) → saysComplete (f ∷ fs) ≡ true → f .kind ≡ 18
+unfolding saysComplete
+complete-eighteen f [] e =
+    let a = both (inPlace 1 0 f && eqb (f .kind) 18 && eqb (f .key) 0) (eqb (f .value) 0) e in
+    let b = both (inPlace 1 0 f && eqb (f .kind) 18) (eqb (f .key) 0) (a .0) in
+    eqb-true (f .kind) 18 (both (inPlace 1 0 f) (eqb (f .kind) 18) (b .0) .1)
+complete-eighteen f (g ∷ fs) e = absurd (false≢true e)
+
+complete-only : (f : model.Frame) (fs : List model.Frame) → saysComplete (f ∷ fs) ≡ true → fs ≡ []
+unfolding saysComplete
+complete-only f [] e = refl
+complete-only f (g ∷ fs) e = absurd (false≢true e)
+
+-- none of them asks for what the request does not ask for
+complete-behind : (f : model.Frame) (fs : List model.Frame) → saysComplete (f ∷ fs) ≡ true → (j : ℕ) → asked fs j ≡ asked (f ∷ fs) j
+complete-behind f fs c j = rw (complete-only f fs c) at-end ∙ sym (complete-asks (f ∷ fs) c j)
+  where
+    at-end : asked [] j ≡ false
+    at-end = unfold asked in refl
+
+module _ (count place least : ℕ) (f : model.Frame) (fs : List model.Frame) where
+  complete-is : (ascend count place least (f ∷ fs) ≡ true) ⊎ (saysComplete (f ∷ fs) ≡ true) → f .kind ≡ 18 → saysComplete (f ∷ fs) ≡ true
+  complete-is (inl a) e = absurd (omega (arith, right-kinded f (ascend-says count place least f fs a .kind) .kind))
+  complete-is (inr c) e = c
+
+  ascend-is : (ascend count place least (f ∷ fs) ≡ true) ⊎ (saysComplete (f ∷ fs) ≡ true) → f .kind ≢ 18 → ascend count place least (f ∷ fs) ≡ true
+  ascend-is (inl a) n = a
+  ascend-is (inr c) n = absurd (n (complete-eighteen f fs c))
+
+  -- the line chooses its run, those behind it what comes after
+  module _ (a : ascend count place least (f ∷ fs) ≡ true) (end : ℕ) where
+    A : Ascends count place least f fs
+    A = ascend-says count place least f fs a
+
+    K : Kinded f
+    K = right-kinded f (A .kind)
+
+    before : (j : ℕ) → least ≤ j → j < least + (min (f .key) end - least) → asked (f ∷ fs) j ≡ false
+    before j l h =
+        let low : j < f .key = omega (arith, A .low) in
+        asked-here count place least f fs a j (omega (arith, K .key)) ∙ not-true (asks f j) (λ q. omega (arith, asks-between f (K .asks) j .0 q .0))
+
+    within : (j : ℕ) → f .key ≤ j → j < f .key + (min (suc (lastOf f)) end - f .key) → asked (f ∷ fs) j ≡ true
+    within j l h =
+        let high : j ≤ lastOf f = omega (arith, K .key) in
+        asked-here count place least f fs a j high ∙ asks-between f (K .asks) j .1 (l, high)
+
+    line-choice : choice (asked (f ∷ fs)) least (end - least) ≡ choice (λ j. true) (f .key) (min (suc (lastOf f)) end - f .key) ++ choice (asked fs) (suc (lastOf f)) (end - suc (lastOf f))
+    line-choice =
+        let w = asked (f ∷ fs) in
+        let e = suc (lastOf f) in
+        let low : choice w least (min (f .key) end - least) ≡ [] = choice-none w least (min (f .key) end - least) before in
+        let mid : choice w (f .key) (min e end - f .key) ≡ choice (λ j. true) (f .key) (min e end - f .key) = choice-same w (λ j. true) (f .key) (min e end - f .key) within in
+        let late : choice w e (end - e) ≡ choice (asked fs) e (end - e) = choice-same w (asked fs) e (end - e) (λ j l h. asked-later f fs j (omega arith)) in
+        choice-at w least (f .key) end (A .low) ∙ rw low (choice-at w (f .key) e end (omega (arith, K .key)) ∙ rw (mid, late) refl)
+
+module _ {n end i k : ℕ} {cs ws : List ℕ} (C : Chosen n cs end i k ws) where
+  -- all are lines
+  pub chosen-bad : i < n → sixFields (piece cs i) ≡ none → ⊥
+  chosen-bad h e = lines-bad n i cs (C .left) h e
+
+  -- no line is left
+  pub chosen-end : n ≤ i → length ws ≡ 4096 → Chooses (allFields (cutting n cs)) end k ws
+  chosen-end h l = rw (C .begun) (length-is, is)
+    where
+      is : take k ws ≡ choice (asked (C .all)) 0 end
+      is = sym (append-nil (take k ws)) ∙ ap (λ js. take k ws ++ js) (sym none-left) ∙ C .same
+        where
+          none-left : choice (asked (C .rest)) (C .least) (end - C .least) ≡ []
+          none-left = choice-none (asked (C .rest)) (C .least) (end - C .least) (λ j a b. unfold asked in rw (lines-end n i cs (C .left) h) refl)
+
+      length-is : k ≡ length (choice (asked (C .all)) 0 end)
+      length-is = sym (length-take-le k ws (omega (arith, C .few, C .most))) ∙ ap length is
+
+  -- one line more
+  module _ (more : i < n) {f : model.Frame} (read : sixFields (piece cs i) ≡ some f) where
+    next : (fs : List model.Frame) × (linesFrom n cs (i + 1) ≡ some fs) × (C .rest ≡ f ∷ fs)
+    next = lines-next n i cs (C .left) more read
+
+    well : (ascend n i (C .least) (f ∷ next .0) ≡ true) ⊎ (saysComplete (f ∷ next .0) ≡ true)
+    well = rw (next .2) at (C .well)
+
+    same : take k ws ++ choice (asked (f ∷ next .0)) (C .least) (end - C .least) ≡ choice (asked (C .all)) 0 end
+    same = rw (next .2) at (C .same)
+
+    -- that says complete: it is the last, and chooses nothing
+    pub chosen-complete : f .kind ≡ 18 → Chosen n cs end (i + 1) k ws
+    chosen-complete e =
+        let c = complete-is n i (C .least) f (next .0) well e in
+        record {
+          least = C .least;
+          rest = next .0;
+          all = C .all;
+          begun = C .begun;
+          left = next .1;
+          well = inl (rw (complete-only f (next .0) c) (ascend-end n (i + 1) (C .least)));
+          few = C .few;
+          most = C .most;
+          same = ap (λ js. take k ws ++ js) (choice-same (asked (next .0)) (asked (f ∷ next .0)) (C .least) (end - C .least) (λ j l h. complete-behind f (next .0) c j)) ∙ same;
+        }
+
+    -- that asks
+    module _ (asking : f .kind ≢ 18) where
+      asks-on : ascend n i (C .least) (f ∷ next .0) ≡ true
+      asks-on = ascend-is n i (C .least) f (next .0) well asking
+
+      now : Ascends n i (C .least) f (next .0)
+      now = ascend-says n i (C .least) f (next .0) asks-on
+
+      pub chosen-last : lastOf f ≤ 4095
+      chosen-last = now .high
+
+      pub chosen-first : k ≤ f .key
+      chosen-first = omega (arith, C .few, now .low)
+
+      pub chosen-run : {l e r : ℕ} {vs : List ℕ} → l ≡ lastOf f → e ≡ min (l + 1) end → (r ≡ k + (e - f .key)) × (take r vs ≡ take k ws ++ choice (λ j. true) (f .key) (e - f .key)) → Chosen n cs end (i + 1) r vs
+      chosen-run {l} {e} {r} {vs} p q t =
+          let place : i + 1 ≡ suc i = omega arith in
+          let to : e ≡ min (suc (lastOf f)) end = omega (arith, p, q) in
+          record {
+            least = suc (lastOf f);
+            rest = next .0;
+            all = C .all;
+            begun = C .begun;
+            left = next .1;
+            well = inl (rw place (now .rest));
+            few = omega (arith, t .0, p, q, C .few, now .low, right-kinded f (now .kind) .key);
+            most = omega (arith, now .high);
+            same = is to;
+          }
+        where
+          is : e ≡ min (suc (lastOf f)) end → take r vs ++ choice (asked (next .0)) (suc (lastOf f)) (end - suc (lastOf f)) ≡ choice (asked (C .all)) 0 end
+          is to =
+              rw (t .1, append-assoc, to) (ap (λ js. take k ws ++ js) (sym (line-choice n i (C .least) f (next .0) asks-on end)) ∙ same)
