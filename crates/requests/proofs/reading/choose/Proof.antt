@@ -1,77 +1,98 @@
+-- Each turn chooses what one line asks for, and what is left to choose is asked for by the lines behind it.
+use borrow.Author.Needs.{needs}
+use native.Mathlib.Omega.{arith}
+use mathlib.Core.Path.{_≡_, ap, _∙_}
+use mathlib.Core.Logic.{⊎-elim}
+use Prim.Native.Nat.{_-_, _≤_}
+use lib.ListN.{length}
+use mathlib.Core.Option.{some}
+use Rattle.model.specs.Request.{sixFields}
+use Rattle.frame.specs.Fields.{fieldsOf}
+use Rattle.requests.proofs.Cutting.{piece}
+use Rattle.requests.proofs.Judging.{six-good, six-none}
+use Rattle.requests.proofs.Choosing.{Chosen, chosen-none, chosen-bad, chosen-end, chosen-complete, chosen-first, chosen-last, chosen-run}
 use Rattle.requests.proofs.reading.choose.Statement.{statement}
 use Rattle.requests.proofs.reading.choose.Tie as tie
-use Rattle.requests.proofs.reading.choose.Reads as reads
-use Rattle.requests.proofs.reading.choose.Lts as lts
-use Rattle.requests.proofs.reading.choose_run.Reads as choose-run-reads
-use Rattle.requests.proofs.reading.last_of.Reads as last-of-reads
-use Rattle.requests.proofs.reading.line_at.Reads as line-at-reads
-use Rattle.requests.proofs.reading.smaller.Reads as smaller-reads
 
 abbrev Inv-loop : tie.InvT-loop
-Inv-loop request n end chosen₀ k₀ i₀ chosen k i = ?
+Inv-loop request n end chosen₀ k₀ i₀ chosen k i = Chosen n request end i k chosen × (i ≤ n) × (length chosen ≡ 4096)
 
 abbrev μ-loop : tie.MeasureT-loop
-μ-loop request n end chosen₀ k₀ i₀ chosen k i = ?
+μ-loop request n end chosen₀ k₀ i₀ chosen k i = n - i
 
--- src/reading.rt:198:5
+-- where a turn has read its line: the loop's head, and what it read
+abbrev head : tie.After-struct-known Inv-loop μ-loop → tie.In-loop Inv-loop μ-loop
+head c = c .before .before .before .before .before
+
+read : (c : tie.After-struct-known Inv-loop μ-loop)
+    → sixFields (piece (head c .before .before .before .before .args .request .now) (head c .before .loop .i)) ≡ some (fieldsOf (c .before .before .f .given .0 .0))
+read c = six-good (c .before .before .before .before .line-at .ensures) (c .before .before .f .given .1)
+
 loop-holds : tie.Need-loop-holds Inv-loop μ-loop
-loop-holds c = ?
+loop-holds c = let s = c .before .before in (chosen-none _ _ _ _ (s .pre .3), omega arith, s .pre .2)
 
--- src/reading.rt:199:31
 line-at-requires : tie.Need-line-at-requires Inv-loop μ-loop
-line-at-requires c κs = ?
+line-at-requires c κs = omega (arith, c .loop-test .taken, c .before .before .before .before .pre .0)
 
--- src/reading.rt:199:26
 enum-known-f : tie.Need-enum-known-f Inv-loop μ-loop
-enum-known-f c = ?
+enum-known-f c = search needs
 
--- src/reading.rt:200:13
 enum-told : tie.Need-enum-told Inv-loop μ-loop
-enum-told c = ?
+enum-told c = search needs
 
--- src/reading.rt:200:13
 same-length : tie.Need-same-length Inv-loop μ-loop
-same-length c = ?
+same-length c = search needs
 
--- src/reading.rt:200:13
 returns : tie.Need-returns Inv-loop μ-loop
-returns c = ?
+returns c =
+    let t = c .before .before .before in
+    absurd (chosen-bad (t .before .loop .inv .0) (t .loop-test .taken) (six-none (c .before .before .line-at .ensures) (c .enum-told .given .1)))
 
--- src/reading.rt:203:54
 last-of-requires : tie.Need-last-of-requires Inv-loop μ-loop
-last-of-requires c κs = ?
+last-of-requires c κs = tt
 
--- src/reading.rt:203:54
 add-smaller : tie.Need-add-smaller Inv-loop μ-loop
-add-smaller c = ?
+add-smaller c =
+    let s = c .before .before .before in
+    omega (arith, c .last-of .ensures, chosen-last (head s .before .loop .inv .0) (head s .loop-test .taken) (read s) (c .before .before .if1 .taken))
 
--- src/reading.rt:203:46
 smaller-requires : tie.Need-smaller-requires Inv-loop μ-loop
-smaller-requires c κs = ?
+smaller-requires c κs = tt
 
--- src/reading.rt:203:13
 choose-run-requires : tie.Need-choose-run-requires Inv-loop μ-loop
-choose-run-requires c κs = ?
+choose-run-requires c κs =
+    let s = c .before .before .before .before in
+    let l = head s .before in
+    (
+      chosen-first (l .loop .inv .0) (head s .loop-test .taken) (read s) (c .before .before .before .if1 .taken),
+      omega (arith, c .smaller .ensures, l .before .before .before .pre .1, l .loop .inv .2),
+      l .loop .inv .2,
+    )
 
--- src/reading.rt:205:13
 add-i : tie.Need-add-i Inv-loop μ-loop
-add-i c = ?
+add-i c = omega (arith, c .before .before .before .before .before .before .loop-test .taken)
 
--- src/reading.rt:198:5
 loop-less : tie.Need-loop-less Inv-loop μ-loop
-loop-less c = ?
+loop-less c = omega (arith, c .before .before .before .before .before .before .loop-test .taken)
 
--- src/reading.rt:198:5
 loop-again : tie.Need-loop-again Inv-loop μ-loop
-loop-again c = ?
+loop-again c =
+    let l = head (c .before) .before in
+    let more = head (c .before) .loop-test .taken in
+    (
+      ⊎-elim
+        (λ p. rw (p .7, p .8) (chosen-run (l .loop .inv .0) more (read (c .before)) (p .0 .taken) (p .2 .ensures) (p .3 .ensures) (p .4 .ensures)))
+        (λ p. rw (p .1, p .2) (chosen-complete (l .loop .inv .0) more (read (c .before)) (p .0 .left)))
+        (c .if1 .came),
+      omega (arith, more),
+      ⊎-elim (λ p. ap length (p .7) ∙ p .4 .kept .0 ∙ l .loop .inv .2) (λ p. ap length (p .1) ∙ l .loop .inv .2) (c .if1 .came),
+    )
 
--- src/reading.rt:192:1
 same-length-2 : tie.Need-same-length-2 Inv-loop μ-loop
-same-length-2 c = ?
+same-length-2 c = search needs
 
--- src/reading.rt:192:1
 returns-2 : tie.Need-returns-2 Inv-loop μ-loop
-returns-2 c = ?
+returns-2 c = chosen-end (c .before .loop .inv .0) (c .loop-test .left) (c .before .loop .inv .2)
 
 pub choose-spec : {M : Type 1} → statement M
 choose-spec =
