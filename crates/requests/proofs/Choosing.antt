@@ -1,6 +1,6 @@
 -- The indexes that lines ask for, line by line: what the lines so far have chosen and what those behind them ask for is what the request asks for.
 use mathlib.Core.Path.{_≡_, refl, ap, sym, _∙_}
-use mathlib.Core.Logic.{_⊎_, inl, inr, ⊎-elim, _≢_}
+use mathlib.Core.Logic.{_⊎_, inl, inr, _≢_}
 use Prim.Native.Nat.{ℕ, zero, suc, _+_, _-_, _≤_, _<_, min}
 use mathlib.Core.Bool.{Bool, true, false, _&&_, false≢true}
 use mathlib.Core.Option.{Option, none, some}
@@ -17,7 +17,7 @@ use Rattle.model.proofs.Tests.{both, either, not-true}
 use Rattle.model.proofs.Requests.{asks-between, Kinded, right-kinded, Ascends, ascend-says, asked-here, asked-later, complete-asks}
 use Rattle.requests.specs.Reading.{holds, choice, Chooses}
 use Rattle.requests.proofs.Judging.{ascend-end}
-use Rattle.requests.proofs.Cutting.{piece, linesFrom, lines-all, lines-next, lines-bad, lines-end, lines-count}
+use Rattle.requests.proofs.Cutting.{piece, linesFrom, Read, lines-all, lines-next, lines-bad, lines-end, lines-count}
 
 -- Parts of a choice.
 
@@ -35,7 +35,8 @@ choice-split want i (suc m) n = go (want i) refl (choice-split want (suc i) m n)
     e : suc i + m ≡ i + suc m
     e = omega arith
 
-    go : (b : Bool) → want i ≡ b → choice want (suc i) (m + n) ≡ choice want (suc i) m ++ choice want (suc i + m) n → choice want i (suc m + n) ≡ choice want i (suc m) ++ choice want (i + suc m) n
+    go : (b : Bool) → want i ≡ b → choice want (suc i) (m + n) ≡ choice want (suc i) m ++ choice want (suc i + m) n
+        → choice want i (suc m + n) ≡ choice want i (suc m) ++ choice want (i + suc m) n
     go true q IH = rw (s, q, choice) (ap (λ is. i ∷ is) (IH ∙ rw e refl))
     go false q IH = rw (s, q, choice) (IH ∙ rw e refl)
 
@@ -136,7 +137,11 @@ chosen-none n cs end ws w = go (allFields (cutting n cs)) refl
 
     well : (fs : List model.Frame) → length fs ≡ n → wellFormed fs ≡ true → (ascend n 0 0 fs ≡ true) ⊎ (saysComplete fs ≡ true)
     well [] l e = unfold wellFormed in absurd (false≢true e)
-    well (f ∷ fs) l e = unfold wellFormed in ⊎-elim (λ c. inr c) (λ a. inl (rw l at a)) (either (saysComplete (f ∷ fs)) (ascend (length (f ∷ fs)) 0 0 (f ∷ fs)) e)
+    well (f ∷ fs) l e = unfold wellFormed in go (either (saysComplete (f ∷ fs)) (ascend (length (f ∷ fs)) 0 0 (f ∷ fs)) e)
+      where
+        go : (saysComplete (f ∷ fs) ≡ true) ⊎ (ascend (length (f ∷ fs)) 0 0 (f ∷ fs) ≡ true) → (ascend n 0 0 (f ∷ fs) ≡ true) ⊎ (saysComplete (f ∷ fs) ≡ true)
+        go (inl c) = inr c
+        go (inr a) = inl (rw l at a)
 
     go : (o : Option (List model.Frame)) → allFields (cutting n cs) ≡ o → Chosen n cs end 0 0 ws
     go none e = absurd (false≢true (rw e at w))
@@ -201,12 +206,14 @@ module _ (count place least : ℕ) (f : model.Frame) (fs : List model.Frame) whe
         let high : j ≤ lastOf f = omega (arith, K .key) in
         asked-here count place least f fs a j high ∙ asks-between f (K .asks) j .1 (l, high)
 
-    line-choice : choice (asked (f ∷ fs)) least (end - least) ≡ choice (λ j. true) (f .key) (min (suc (lastOf f)) end - f .key) ++ choice (asked fs) (suc (lastOf f)) (end - suc (lastOf f))
+    line-choice : choice (asked (f ∷ fs)) least (end - least)
+        ≡ choice (λ j. true) (f .key) (min (suc (lastOf f)) end - f .key) ++ choice (asked fs) (suc (lastOf f)) (end - suc (lastOf f))
     line-choice =
         let w = asked (f ∷ fs) in
         let e = suc (lastOf f) in
         let low : choice w least (min (f .key) end - least) ≡ [] = choice-none w least (min (f .key) end - least) before in
-        let mid : choice w (f .key) (min e end - f .key) ≡ choice (λ j. true) (f .key) (min e end - f .key) = choice-same w (λ j. true) (f .key) (min e end - f .key) within in
+        let n = min e end - f .key in
+        let mid : choice w (f .key) n ≡ choice (λ j. true) (f .key) n = choice-same w (λ j. true) (f .key) n within in
         let late : choice w e (end - e) ≡ choice (asked fs) e (end - e) = choice-same w (asked fs) e (end - e) (λ j l h. asked-later f fs j (omega arith)) in
         choice-at w least (f .key) end (A .low) ∙ rw low (choice-at w (f .key) e end (omega (arith, K .key)) ∙ rw (mid, late) refl)
 
@@ -229,9 +236,9 @@ module _ {n end i k : ℕ} {cs ws : List ℕ} (C : Chosen n cs end i k ws) where
       length-is = sym (length-take-le k ws (omega (arith, C .few, C .most))) ∙ ap length is
 
   -- one line more
-  module _ (more : i < n) {f : model.Frame} (read : sixFields (piece cs i) ≡ some f) where
+  module _ {f : model.Frame} (R : Read n i cs f) where
     next : (fs : List model.Frame) × (linesFrom n cs (i + 1) ≡ some fs) × (C .rest ≡ f ∷ fs)
-    next = lines-next n i cs (C .left) more read
+    next = lines-next R (C .left)
 
     well : (ascend n i (C .least) (f ∷ next .0) ≡ true) ⊎ (saysComplete (f ∷ next .0) ≡ true)
     well = rw (next .2) at (C .well)
@@ -252,8 +259,12 @@ module _ {n end i k : ℕ} {cs ws : List ℕ} (C : Chosen n cs end i k ws) where
           well = inl (rw (complete-only f (next .0) c) (ascend-end n (i + 1) (C .least)));
           few = C .few;
           most = C .most;
-          same = ap (λ js. take k ws ++ js) (choice-same (asked (next .0)) (asked (f ∷ next .0)) (C .least) (end - C .least) (λ j l h. complete-behind f (next .0) c j)) ∙ same;
+          same = ap (λ js. take k ws ++ js) (nothing c) ∙ same;
         }
+
+      where
+        nothing : saysComplete (f ∷ next .0) ≡ true → choice (asked (next .0)) (C .least) (end - C .least) ≡ choice (asked (f ∷ next .0)) (C .least) (end - C .least)
+        nothing c = choice-same (asked (next .0)) (asked (f ∷ next .0)) (C .least) (end - C .least) (λ j l h. complete-behind f (next .0) c j)
 
     -- that asks
     module _ (asking : f .kind ≢ 18) where
@@ -269,7 +280,9 @@ module _ {n end i k : ℕ} {cs ws : List ℕ} (C : Chosen n cs end i k ws) where
       pub chosen-first : k ≤ f .key
       chosen-first = omega (arith, C .few, now .low)
 
-      pub chosen-run : {l e r : ℕ} {vs : List ℕ} → l ≡ lastOf f → e ≡ min (l + 1) end → (r ≡ k + (e - f .key)) × (take r vs ≡ take k ws ++ choice (λ j. true) (f .key) (e - f .key)) → Chosen n cs end (i + 1) r vs
+      pub chosen-run : {l e r : ℕ} {vs : List ℕ} → l ≡ lastOf f → e ≡ min (l + 1) end
+          → (r ≡ k + (e - f .key)) × (take r vs ≡ take k ws ++ choice (λ j. true) (f .key) (e - f .key))
+          → Chosen n cs end (i + 1) r vs
       chosen-run {l} {e} {r} {vs} p q t =
           let place : i + 1 ≡ suc i = omega arith in
           let to : e ≡ min (suc (lastOf f)) end = omega (arith, p, q) in

@@ -61,10 +61,12 @@ module _ (cs : List ℕ) (i : ℕ) (h : 35 * i + 35 ≤ length cs) where
   piece-open at a n = rw (piece-long, piece-end, ne-eqb (getD cs (35 * i + 34) 0) 10 (λ e. n (ap (λ k. getD cs (k + 34) 0) a ∙ e)), sixFields) refl
 
   -- and with it those that frame reads
-  pub piece-said : (at : ℕ) → at ≡ 35 * i → getD cs (at + 34) 0 ≡ 10 → (r : Parsed) (k : ℕ) → parsed r ≡ fieldsRead (take k (drop at cs)) → k ≡ 35 → sixOf r ≡ sixFields (piece cs i)
+  pub piece-said : (at : ℕ) → at ≡ 35 * i → getD cs (at + 34) 0 ≡ 10
+      → (r : Parsed) (k : ℕ) → parsed r ≡ fieldsRead (take k (drop at cs)) → k ≡ 35 → sixOf r ≡ sixFields (piece cs i)
   unfolding sixFields
   piece-said at a e r k q w =
-      rw (piece-long, piece-end, eq-eqb (getD cs (35 * i + 34) 0) 10 (ap (λ k. getD cs (k + 34) 0) (sym a) ∙ e), sixFields) (six-frame r ∙ ap frame-of q ∙ rw (a, w) (read-frame (piece cs i)))
+      let newline = eq-eqb (getD cs (35 * i + 34) 0) 10 (ap (λ k. getD cs (k + 34) 0) (sym a) ∙ e) in
+      rw (piece-long, piece-end, newline, sixFields) (six-frame r ∙ ap frame-of q ∙ rw (a, w) (read-frame (piece cs i)))
 
 pieces-next : (n i : ℕ) (cs : List ℕ) → i < n → cutting (n - i) (drop (35 * i) cs) ≡ piece cs i ∷ cutting (n - (i + 1)) (drop (35 * (i + 1)) cs)
 unfolding cutting
@@ -77,34 +79,63 @@ pieces-next n i cs h =
 pub lines-all : (n : ℕ) (cs : List ℕ) → linesFrom n cs 0 ≡ allFields (cutting n cs)
 lines-all n cs = let e : n - 0 ≡ n = omega arith in rw e refl
 
-module _ (n i : ℕ) (cs : List ℕ) (T : List model.Frame → Bool) {g : Bool} (is : holds T (linesFrom n cs i) ≡ g) where
-  -- a piece that is no line
-  pub test-bad : i < n → sixFields (piece cs i) ≡ none → false ≡ g
+-- the lines from i on: at a piece that is no line, and at the end
+module _ (n i : ℕ) (cs : List ℕ) where
+  lines-none : i < n → sixFields (piece cs i) ≡ none → linesFrom n cs i ≡ none
   unfolding allFields
-  test-bad h e = sym (rw (pieces-next n i cs h, e) refl) ∙ is
+  lines-none h e = rw (pieces-next n i cs h, e) refl
 
-  -- a line that decides
-  pub test-off : i < n → {f : model.Frame} → sixFields (piece cs i) ≡ some f → ((fs : List model.Frame) → T (f ∷ fs) ≡ false) → false ≡ g
-  unfolding allFields
-  test-off h {f} e t = sym (rw (pieces-next n i cs h, e) (go (linesFrom n cs (i + 1)))) ∙ is
-    where
-      go : (m : Option (List model.Frame)) → holds T (m >>= (λ fs. some (f ∷ fs))) ≡ false
-      go none = refl
-      go (some fs) = t fs
-
-  -- a line that leaves it to those behind it
-  pub test-on : i < n → {f : model.Frame} → sixFields (piece cs i) ≡ some f → (U : List model.Frame → Bool) → ((fs : List model.Frame) → T (f ∷ fs) ≡ U fs) → holds U (linesFrom n cs (i + 1)) ≡ g
-  unfolding allFields
-  test-on h {f} e U t = sym (rw (pieces-next n i cs h, e) (go (linesFrom n cs (i + 1)))) ∙ is
-    where
-      go : (m : Option (List model.Frame)) → holds T (m >>= (λ fs. some (f ∷ fs))) ≡ holds U m
-      go none = refl
-      go (some fs) = t fs
-
-  -- no line is left
-  pub test-end : n ≤ i → T [] ≡ true → true ≡ g
+  lines-nil : n ≤ i → linesFrom n cs i ≡ some []
   unfolding allFields cutting
-  test-end h t = let e : n - i ≡ 0 = omega (arith, h) in sym (rw e t) ∙ is
+  lines-nil h = let e : n - i ≡ 0 = omega (arith, h) in rw e refl
+
+  module _ (T : List model.Frame → Bool) {g : Bool} (is : holds T (linesFrom n cs i) ≡ g) where
+    pub test-bad : i < n → sixFields (piece cs i) ≡ none → false ≡ g
+    test-bad h e = sym (ap (holds T) (lines-none h e)) ∙ is
+
+    pub test-end : n ≤ i → T [] ≡ true → true ≡ g
+    test-end h t = sym (ap (holds T) (lines-nil h) ∙ t) ∙ is
+
+  module _ {fs : List model.Frame} (is : linesFrom n cs i ≡ some fs) where
+    pub lines-bad : i < n → sixFields (piece cs i) ≡ none → ⊥
+    lines-bad h e =
+        let z : _≡_ {A = ℕ} 0 1 = cc (sym (lines-none h e) ∙ is) in
+        omega arith
+
+    pub lines-end : n ≤ i → fs ≡ []
+    lines-end h = cc (sym (lines-nil h) ∙ is)
+
+-- line i of n was read
+pub record Read (n i : ℕ) (cs : List ℕ) (f : model.Frame) : Type 0 where
+  pub more : i < n
+  pub line : sixFields (piece cs i) ≡ some f
+
+module _ {n i : ℕ} {cs : List ℕ} {f : model.Frame} (R : Read n i cs f) where
+  lines-more : linesFrom n cs i ≡ (linesFrom n cs (i + 1) >>= (λ fs. some (f ∷ fs)))
+  unfolding allFields
+  lines-more = rw (pieces-next n i cs (R .more), R .line) refl
+
+  module _ (T : List model.Frame → Bool) {g : Bool} (is : holds T (linesFrom n cs i) ≡ g) where
+    -- it decides
+    pub test-off : ((fs : List model.Frame) → T (f ∷ fs) ≡ false) → false ≡ g
+    test-off t = sym (ap (holds T) lines-more ∙ go (linesFrom n cs (i + 1))) ∙ is
+      where
+        go : (m : Option (List model.Frame)) → holds T (m >>= (λ fs. some (f ∷ fs))) ≡ false
+        go none = refl
+        go (some fs) = t fs
+
+    -- it leaves it to those behind it
+    pub test-on : (U : List model.Frame → Bool) → ((fs : List model.Frame) → T (f ∷ fs) ≡ U fs) → holds U (linesFrom n cs (i + 1)) ≡ g
+    test-on U t = sym (ap (holds T) lines-more ∙ go (linesFrom n cs (i + 1))) ∙ is
+      where
+        go : (m : Option (List model.Frame)) → holds T (m >>= (λ fs. some (f ∷ fs))) ≡ holds U m
+        go none = refl
+        go (some fs) = t fs
+
+  pub lines-next : {fs : List model.Frame} → linesFrom n cs i ≡ some fs → (gs : List model.Frame) × (linesFrom n cs (i + 1) ≡ some gs) × (fs ≡ f ∷ gs)
+  lines-next {fs} is =
+      let b = bind-some (linesFrom n cs (i + 1)) (λ gs. some (f ∷ gs)) fs (sym lines-more ∙ is) in
+      (b .0, b .1, cc (b .2))
 
 -- one line alone
 module _ (T : List model.Frame → Bool) (cs : List ℕ) where
@@ -115,29 +146,6 @@ module _ (T : List model.Frame → Bool) (cs : List ℕ) where
   pub only-good : {f : model.Frame} {b : Bool} → sixFields (piece cs 0) ≡ some f → T (f ∷ []) ≡ b → b ≡ holds T (allFields (cutting 1 cs))
   unfolding allFields cutting
   only-good e t = sym t ∙ rw e refl
-
--- lines that were all read, from i on
-module _ (n i : ℕ) (cs : List ℕ) {fs : List model.Frame} (is : linesFrom n cs i ≡ some fs) where
-  pub lines-bad : i < n → sixFields (piece cs i) ≡ none → ⊥
-  unfolding allFields
-  lines-bad h e =
-      let o : linesFrom n cs i ≡ none = rw (pieces-next n i cs h, e) refl in
-      let z : _≡_ {A = ℕ} 0 1 = cc (sym o ∙ is) in
-      omega arith
-
-  pub lines-next : i < n → {f : model.Frame} → sixFields (piece cs i) ≡ some f → (gs : List model.Frame) × (linesFrom n cs (i + 1) ≡ some gs) × (fs ≡ f ∷ gs)
-  unfolding allFields
-  lines-next h {f} e =
-      let o : linesFrom n cs i ≡ (linesFrom n cs (i + 1) >>= (λ gs. some (f ∷ gs))) = rw (pieces-next n i cs h, e) refl in
-      let b = bind-some (linesFrom n cs (i + 1)) (λ gs. some (f ∷ gs)) fs (sym o ∙ is) in
-      (b .0, b .1, cc (b .2))
-
-  pub lines-end : n ≤ i → fs ≡ []
-  unfolding allFields cutting
-  lines-end h =
-      let e : n - i ≡ 0 = omega (arith, h) in
-      let o : linesFrom n cs i ≡ some [] = rw e refl in
-      cc (sym o ∙ is)
 
 -- as many lines are read as there are pieces
 pub lines-count : (n : ℕ) (cs : List ℕ) (fs : List model.Frame) → allFields (cutting n cs) ≡ some fs → length fs ≡ n
@@ -155,7 +163,8 @@ unfolding allFields cutting
 lines-short zero cs h = absurd (omega arith)
 lines-short (suc n) cs h = go (leb 35 (length cs)) refl (lines-short n (drop 35 cs))
   where
-    go : (b : Bool) → leb 35 (length cs) ≡ b → (length (drop 35 cs) < 35 * n → allFields (cutting n (drop 35 cs)) ≡ none) → allFields (cutting (suc n) cs) ≡ none
+    go : (b : Bool) → leb 35 (length cs) ≡ b → (length (drop 35 cs) < 35 * n → allFields (cutting n (drop 35 cs)) ≡ none)
+        → allFields (cutting (suc n) cs) ≡ none
     go false e IH =
         let l : length (take 35 cs) ≢ 35 = λ q. omega (arith, length-take 35 cs, leb-false 35 (length cs) e) in
         rw (six-short (take 35 cs) l) refl

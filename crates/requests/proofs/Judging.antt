@@ -34,11 +34,13 @@ six-good e g = sym e ∙ rw g refl
 pub six-none : {r : Parsed} {o : Option model.Frame} {f : Fault} → sixOf r ≡ o → r ≡ Bad f → o ≡ none
 six-none e g = sym e ∙ rw g refl
 
-pub run-one : (batch count place first last : ℕ) → first ≡ last → record { batch = batch; index = place; count = count; kind = 16; key = first; value = 0 } ≡ runLine batch count place (record { first = first; last = last })
+pub run-one : (batch count place first last : ℕ) → first ≡ last
+    → record { batch = batch; index = place; count = count; kind = 16; key = first; value = 0 } ≡ runLine batch count place (record { first = first; last = last })
 unfolding runLine
 run-one batch count place first last e = rw (eq-eqb first last e, runLine) refl
 
-pub run-more : (batch count place first last : ℕ) → first ≢ last → record { batch = batch; index = place; count = count; kind = 17; key = first; value = last } ≡ runLine batch count place (record { first = first; last = last })
+pub run-more : (batch count place first last : ℕ) → first ≢ last
+    → record { batch = batch; index = place; count = count; kind = 17; key = first; value = last } ≡ runLine batch count place (record { first = first; last = last })
 unfolding runLine
 run-more batch count place first last n = rw (ne-eqb first last n, runLine) refl
 
@@ -119,7 +121,8 @@ module _ (f : model.Frame) (count place least : ℕ) where
   unfolding ascend
   ascend-off fs e = rw e refl
 
-  pub ascend-on : {l : ℕ} (fs : List model.Frame) → Asks f count place least ≡ true → l ≡ lastOf f → ascend count place least (f ∷ fs) ≡ ascend count (place + 1) (l + 1) fs
+  pub ascend-on : {l : ℕ} (fs : List model.Frame) → Asks f count place least ≡ true → l ≡ lastOf f
+      → ascend count place least (f ∷ fs) ≡ ascend count (place + 1) (l + 1) fs
   unfolding ascend
   ascend-on {l} fs e q =
       let p : place + 1 ≡ suc place = omega arith in

@@ -5,10 +5,8 @@ use mathlib.Core.Path.{_≡_, ap, _∙_}
 use mathlib.Core.Logic.{⊎-elim}
 use Prim.Native.Nat.{_-_, _≤_}
 use lib.ListN.{length}
-use mathlib.Core.Option.{some}
-use Rattle.model.specs.Request.{sixFields}
 use Rattle.frame.specs.Fields.{fieldsOf}
-use Rattle.requests.proofs.Cutting.{piece}
+use Rattle.requests.proofs.Cutting.{Read}
 use Rattle.requests.proofs.Judging.{six-good, six-none}
 use Rattle.requests.proofs.Choosing.{Chosen, chosen-none, chosen-bad, chosen-end, chosen-complete, chosen-first, chosen-last, chosen-run}
 use Rattle.requests.proofs.reading.choose.Statement.{statement}
@@ -20,13 +18,16 @@ Inv-loop request n end chosen₀ k₀ i₀ chosen k i = Chosen n request end i k
 abbrev μ-loop : tie.MeasureT-loop
 μ-loop request n end chosen₀ k₀ i₀ chosen k i = n - i
 
--- where a turn has read its line: the loop's head, and what it read
+-- where a turn has read its line: the loop's head and what the function was given, and what was read
 abbrev head : tie.After-struct-known Inv-loop μ-loop → tie.In-loop Inv-loop μ-loop
 head c = c .before .before .before .before .before
 
+abbrev start : tie.After-struct-known Inv-loop μ-loop → tie.Start Inv-loop μ-loop
+start c = head c .before .before .before .before
+
 read : (c : tie.After-struct-known Inv-loop μ-loop)
-    → sixFields (piece (head c .before .before .before .before .args .request .now) (head c .before .loop .i)) ≡ some (fieldsOf (c .before .before .f .given .0 .0))
-read c = six-good (c .before .before .before .before .line-at .ensures) (c .before .before .f .given .1)
+    → Read (start c .args .n) (head c .before .loop .i) (start c .args .request .now) (fieldsOf (c .before .before .f .given .0 .0))
+read c = record { more = head c .loop-test .taken; line = six-good (c .before .before .before .before .line-at .ensures) (c .before .before .f .given .1) }
 
 loop-holds : tie.Need-loop-holds Inv-loop μ-loop
 loop-holds c = let s = c .before .before in (chosen-none _ _ _ _ (s .pre .3), omega arith, s .pre .2)
@@ -53,39 +54,35 @@ last-of-requires c κs = tt
 
 add-smaller : tie.Need-add-smaller Inv-loop μ-loop
 add-smaller c =
-    let s = c .before .before .before in
-    omega (arith, c .last-of .ensures, chosen-last (head s .before .loop .inv .0) (head s .loop-test .taken) (read s) (c .before .before .if1 .taken))
+    let r = c .before .before .before in
+    omega (arith, c .last-of .ensures, chosen-last (head r .before .loop .inv .0) (read r) (c .before .before .if1 .taken))
 
 smaller-requires : tie.Need-smaller-requires Inv-loop μ-loop
 smaller-requires c κs = tt
 
 choose-run-requires : tie.Need-choose-run-requires Inv-loop μ-loop
 choose-run-requires c κs =
-    let s = c .before .before .before .before in
-    let l = head s .before in
-    (
-      chosen-first (l .loop .inv .0) (head s .loop-test .taken) (read s) (c .before .before .before .if1 .taken),
-      omega (arith, c .smaller .ensures, l .before .before .before .pre .1, l .loop .inv .2),
-      l .loop .inv .2,
-    )
+    let r = c .before .before .before .before in
+    let I = head r .before .loop .inv in
+    (chosen-first (I .0) (read r) (c .before .before .before .if1 .taken), omega (arith, c .smaller .ensures, start r .pre .1, I .2), I .2)
 
 add-i : tie.Need-add-i Inv-loop μ-loop
-add-i c = omega (arith, c .before .before .before .before .before .before .loop-test .taken)
+add-i c = omega (arith, head (c .before) .loop-test .taken)
 
 loop-less : tie.Need-loop-less Inv-loop μ-loop
-loop-less c = omega (arith, c .before .before .before .before .before .before .loop-test .taken)
+loop-less c = omega (arith, head (c .before) .loop-test .taken)
 
 loop-again : tie.Need-loop-again Inv-loop μ-loop
 loop-again c =
-    let l = head (c .before) .before in
-    let more = head (c .before) .loop-test .taken in
+    let r = c .before in
+    let I = head r .before .loop .inv in
     (
       ⊎-elim
-        (λ p. rw (p .7, p .8) (chosen-run (l .loop .inv .0) more (read (c .before)) (p .0 .taken) (p .2 .ensures) (p .3 .ensures) (p .4 .ensures)))
-        (λ p. rw (p .1, p .2) (chosen-complete (l .loop .inv .0) more (read (c .before)) (p .0 .left)))
+        (λ p. rw (p .7, p .8) (chosen-run (I .0) (read r) (p .0 .taken) (p .2 .ensures) (p .3 .ensures) (p .4 .ensures)))
+        (λ p. rw (p .1, p .2) (chosen-complete (I .0) (read r) (p .0 .left)))
         (c .if1 .came),
-      omega (arith, more),
-      ⊎-elim (λ p. ap length (p .7) ∙ p .4 .kept .0 ∙ l .loop .inv .2) (λ p. ap length (p .1) ∙ l .loop .inv .2) (c .if1 .came),
+      omega (arith, head r .loop-test .taken),
+      ⊎-elim (λ p. ap length (p .7) ∙ p .4 .kept .0 ∙ I .2) (λ p. ap length (p .1) ∙ I .2) (c .if1 .came),
     )
 
 same-length-2 : tie.Need-same-length-2 Inv-loop μ-loop

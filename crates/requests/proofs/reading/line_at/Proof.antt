@@ -35,10 +35,11 @@ fields-requires : tie.Need-fields-requires
 fields-requires c κs = search needs
 
 returns-2 : tie.Need-returns-2
-returns-2 c = 
-    let i = c .before .before .before .before .before .args .i in
+returns-2 c =
+    let s = c .before .before .before .before .before in
+    let i = s .args .i in
     let w : 35 * i + 35 - 35 * i ≡ 35 = omega arith in
-    piece-said _ i (c .before .before .before .before .before .pre) _ refl (c .before .before .if1 .left) (c .fields .result) (35 * i + 35 - 35 * i) (c .fields .ensures) w
+    piece-said _ i (s .pre) _ refl (c .before .before .if1 .left) (c .fields .result) (35 * i + 35 - 35 * i) (c .fields .ensures) w
 
 pub line-at-spec : {M : Type 1} → statement M
 line-at-spec =

@@ -1,10 +1,21 @@
 -- The request is this one line, so that its tests are the request's.
 use borrow.Author.Needs.{needs}
+use mathlib.Core.Path.{_≡_}
+use mathlib.Core.Bool.{true}
+use mathlib.Core.Option.{some}
+use Rattle.model.specs.Request.{inPlace, saysComplete, sixFields}
+use Rattle.frame.specs.Fields.{fieldsOf}
+use Rattle.requests.proofs.Judging.{went-on, went-off, six-good, six-none, complete-place, complete-kind, complete-key, complete-value}
+use Rattle.requests.proofs.Cutting.{piece, only-bad, only-good}
 use Rattle.requests.proofs.reading.says_complete.Statement.{statement}
 use Rattle.requests.proofs.reading.says_complete.Tie as tie
-use Rattle.model.specs.Request.{saysComplete}
-use Rattle.requests.proofs.Judging.{went-on, went-off, six-good, six-none, complete-place, complete-kind, complete-key, complete-value}
-use Rattle.requests.proofs.Cutting.{only-bad, only-good}
+
+-- the line that was read
+line : (c : tie.After-known-told) → sixFields (piece (c .before .before .before .before .before .args .request .now) 0) ≡ some (fieldsOf (c .before .f .given .0 .0))
+line c = six-good (c .before .before .before .line-at .ensures) (c .before .f .given .1)
+
+stands : (c : tie.Else1) → inPlace 1 0 (fieldsOf (c .before .before .before .f .given .0 .0)) ≡ true
+stands c = went-on _ (c .before .in-place .ensures) (c .if1 .left)
 
 line-at-requires : tie.Need-line-at-requires
 line-at-requires c κs = search needs
@@ -22,16 +33,22 @@ in-place-requires : tie.Need-in-place-requires
 in-place-requires c κs = search needs
 
 returns-2 : tie.Need-returns-2
-returns-2 c = only-good saysComplete _ (six-good (c .before .before .before .before .before .line-at .ensures) (c .before .before .before .f .given .1)) (complete-place _ (went-off _ (c .before .in-place .ensures) (c .if1 .taken)))
+returns-2 c = only-good saysComplete _ (line (c .before .before)) (complete-place _ (went-off _ (c .before .in-place .ensures) (c .if1 .taken)))
 
 returns-3 : tie.Need-returns-3
-returns-3 c = only-good saysComplete _ (six-good (c .before .before .before .before .before .before .before .line-at .ensures) (c .before .before .before .before .before .f .given .1)) (complete-kind _ (went-on _ (c .before .before .before .in-place .ensures) (c .before .before .if1 .left)) (c .if2 .taken))
+returns-3 c =
+    let e = c .before .before in
+    only-good saysComplete _ (line (e .before .before)) (complete-kind _ (stands e) (c .if2 .taken))
 
 returns-4 : tie.Need-returns-4
-returns-4 c = only-good saysComplete _ (six-good (c .before .before .before .before .before .before .before .before .before .line-at .ensures) (c .before .before .before .before .before .before .before .f .given .1)) (complete-key _ (went-on _ (c .before .before .before .before .before .in-place .ensures) (c .before .before .before .before .if1 .left)) (c .before .before .if2 .left) (c .if3 .taken))
+returns-4 c =
+    let e = c .before .before .before .before in
+    only-good saysComplete _ (line (e .before .before)) (complete-key _ (stands e) (c .before .before .if2 .left) (c .if3 .taken))
 
 returns-5 : tie.Need-returns-5
-returns-5 c = only-good saysComplete _ (six-good (c .before .before .before .before .before .before .before .before .before .before .line-at .ensures) (c .before .before .before .before .before .before .before .before .f .given .1)) (complete-value _ (went-on _ (c .before .before .before .before .before .before .in-place .ensures) (c .before .before .before .before .before .if1 .left)) (c .before .before .before .if2 .left) (c .before .if3 .left))
+returns-5 c =
+    let e = c .before .before .before .before .before in
+    only-good saysComplete _ (line (e .before .before)) (complete-value _ (stands e) (c .before .before .before .if2 .left) (c .before .if3 .left))
 
 pub says-complete-spec : {M : Type 1} → statement M
 says-complete-spec =

@@ -35,7 +35,8 @@ enum-told c = search needs
 returns : tie.Need-returns Inv-loop μ-loop
 returns c =
     let l = c .before .before .before .before in
-    behind-none (l .loop .inv .0) (l .loop .inv .1) (found-none (l .before .before .args .x .now) (l .loop .i) (c .enum-told .given .1) (c .before .before .run-from .ensures))
+    let none-found = found-none (l .before .before .args .x .now) (l .loop .i) (c .enum-told .given .1) (c .before .before .run-from .ensures) in
+    behind-none (l .loop .inv .0) (l .loop .inv .1) none-found
 
 add-i : tie.Need-add-i Inv-loop μ-loop
 add-i c = omega (arith, next c .high, loop-of c .before .before .pre .small)
