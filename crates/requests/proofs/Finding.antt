@@ -88,15 +88,16 @@ module _ {x : List ℕ} {i a : ℕ} (R : Reaches x i (countOf x) true a) where
         go (yes e) = absurd (⊎-elim (λ q. n (e ∙ q)) (λ h. true≢false (sym h ∙ ap (heardAt x) (sym e) ∙ here)) (S .other))
         go (no q) = omega (arith, S .low, q)
 
+    ends : (countOf x - b ≡ 0) ⊎ (heardAt x b ≡ true)
+    ends = ⊎-elim (λ e. inl (omega (arith, e))) (λ h. inr h) (S .other)
+
     is-run : runsFrom x a ≡ record { first = a; last = b - 1 } ∷ runsFrom x b
     is-run =
         let long : countOf x - a ≡ suc (b - 1 - a) + (countOf x - b) = omega (arith, runs-past, S .high) in
         let last : a + (b - 1 - a) ≡ b - 1 = omega (arith, runs-past) in
         let next : a + suc (b - 1 - a) ≡ b = omega (arith, runs-past) in
         let missing : (j : ℕ) → j ≤ b - 1 - a → heardAt x (a + j) ≡ false = λ j l. S .same (a + j) (omega arith) (omega (arith, l, runs-past)) in
-        let ends : (countOf x - b ≡ 0) ⊎ (heardAt x (a + suc (b - 1 - a)) ≡ true) =
-            ⊎-elim (λ e. inl (omega (arith, e))) (λ h. inr (ap (heardAt x) next ∙ h)) (S .other) in
-        rw long (unheard-run (heardAt x) (b - 1 - a) a (countOf x - b) missing ends ∙ rw (last, next) refl)
+        rw long (unheard-run (heardAt x) (b - 1 - a) a (countOf x - b) missing (rw next ends) ∙ rw (last, next) refl)
 
     pub runs-some : (runsFrom x i ≡ record { first = a; last = b - 1 } ∷ runsFrom x (suc (b - 1))) × (i ≤ b - 1) × (b - 1 < countOf x)
     runs-some =

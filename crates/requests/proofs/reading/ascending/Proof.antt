@@ -3,7 +3,7 @@ use borrow.Author.Needs.{needs}
 use native.Mathlib.Omega.{arith}
 use mathlib.Core.Path.{_≡_, ap}
 use Prim.Native.Nat.{_-_, _≤_}
-use mathlib.Core.Bool.{true}
+use mathlib.Core.Bool.{Bool, true, false}
 use Rattle.model.specs.Request.{cutting, allFields, ascend}
 use Rattle.frame.specs.Fields.{fieldsOf}
 use Rattle.requests.specs.Reading.{holds}
@@ -29,10 +29,15 @@ read : (c : tie.After-known-told Inv-loop μ-loop)
     → Read (start c .args .n) (head c .before .loop .i) (start c .args .request .now) (fieldsOf (c .before .f .given .0 .0))
 read c = record { more = head c .loop-test .taken; line = six-good (c .before .before .before .line-at .ensures) (c .before .f .given .1) }
 
--- the line asks
-asks : (c : tie.Else1 Inv-loop μ-loop)
-    → let r = c .before .before in Asks (fieldsOf (r .before .f .given .0 .0)) (start r .args .n) (head r .before .loop .i) (head r .before .loop .least) ≡ true
-asks c = went-on _ (c .before .asks-from .ensures) (c .if1 .left)
+-- whether the line asks
+abbrev asks : tie.After-known-told Inv-loop μ-loop → Bool
+asks c = Asks (fieldsOf (c .before .f .given .0 .0)) (start c .args .n) (head c .before .loop .i) (head c .before .loop .least)
+
+asks-on : (c : tie.Else1 Inv-loop μ-loop) → asks (c .before .before) ≡ true
+asks-on c = went-on _ (c .before .asks-from .ensures) (c .if1 .left)
+
+asks-off : (c : tie.Then1 Inv-loop μ-loop) → asks (c .before .before) ≡ false
+asks-off c = went-off _ (c .before .asks-from .ensures) (c .if1 .taken)
 
 loop-holds : tie.Need-loop-holds Inv-loop μ-loop
 loop-holds c = (omega arith, ap (holds (ascend (c .before .args .n) 0 0)) (lines-all _ _))
@@ -58,13 +63,13 @@ asks-from-requires c κs = tt
 returns-2 : tie.Need-returns-2 Inv-loop μ-loop
 returns-2 c =
     let r = c .before .before in
-    test-off (read r) (ascend _ _ _) (head r .before .loop .inv .1) (λ fs. ascend-off _ _ _ _ fs (went-off _ (c .before .asks-from .ensures) (c .if1 .taken)))
+    test-off (read r) (ascend _ _ _) (head r .before .loop .inv .1) (λ fs. ascend-off _ _ _ _ fs (asks-off c))
 
 last-of-requires : tie.Need-last-of-requires Inv-loop μ-loop
 last-of-requires c κs = tt
 
 add-least : tie.Need-add-least Inv-loop μ-loop
-add-least c = omega (arith, c .last-of .ensures, asks-last _ _ _ _ (asks (c .before)))
+add-least c = omega (arith, c .last-of .ensures, asks-last _ _ _ _ (asks-on (c .before)))
 
 add-i : tie.Need-add-i Inv-loop μ-loop
 add-i c = omega (arith, head (c .before .before .before) .loop-test .taken)
@@ -74,10 +79,9 @@ loop-less c = omega (arith, head (c .before .before .before) .loop-test .taken)
 
 loop-again : tie.Need-loop-again Inv-loop μ-loop
 loop-again c =
-    let r = c .before .before .before in
-    (
+    let r = c .before .before .before in (
       omega (arith, head r .loop-test .taken),
-      test-on (read r) (ascend _ _ _) (head r .before .loop .inv .1) (ascend _ _ _) (λ fs. ascend-on _ _ _ _ fs (asks (c .before)) (c .last-of .ensures)),
+      test-on (read r) (ascend _ _ _) (head r .before .loop .inv .1) (ascend _ _ _) (λ fs. ascend-on _ _ _ _ fs (asks-on (c .before)) (c .last-of .ensures)),
     )
 
 returns-3 : tie.Need-returns-3 Inv-loop μ-loop

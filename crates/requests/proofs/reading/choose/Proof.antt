@@ -75,12 +75,11 @@ loop-less c = omega (arith, head (c .before) .loop-test .taken)
 loop-again : tie.Need-loop-again Inv-loop μ-loop
 loop-again c =
     let r = c .before in
-    let I = head r .before .loop .inv in
-    (
+    let I = head r .before .loop .inv in (
       ⊎-elim
-        (λ p. rw (p .7, p .8) (chosen-run (I .0) (read r) (p .0 .taken) (p .2 .ensures) (p .3 .ensures) (p .4 .ensures)))
-        (λ p. rw (p .1, p .2) (chosen-complete (I .0) (read r) (p .0 .left)))
-        (c .if1 .came),
+          (λ p. rw (p .7, p .8) (chosen-run (I .0) (read r) (p .0 .taken) (p .2 .ensures) (p .3 .ensures) (p .4 .ensures)))
+          (λ p. rw (p .1, p .2) (chosen-complete (I .0) (read r) (p .0 .left)))
+          (c .if1 .came),
       omega (arith, head r .loop-test .taken),
       ⊎-elim (λ p. ap length (p .7) ∙ p .4 .kept .0 ∙ I .2) (λ p. ap length (p .1) ∙ I .2) (c .if1 .came),
     )

@@ -2,7 +2,7 @@
 use borrow.Author.Needs.{needs}
 use native.Mathlib.Omega.{arith}
 use Prim.Native.Nat.{_-_}
-use Rattle.requests.proofs.Choosing.{Written, written-none, written-more, written-all}
+use Rattle.requests.proofs.Choices.{Written, written-none, written-more, written-all}
 use Rattle.requests.proofs.reading.choose_run.Statement.{statement}
 use Rattle.requests.proofs.reading.choose_run.Tie as tie
 

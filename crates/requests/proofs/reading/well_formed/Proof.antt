@@ -35,7 +35,7 @@ returns-4 c =
     let some : 0 < n = omega (arith, c .before .before .before .if1 .left) in
     c .ascending .ensures
     ∙ well-asks cs n whole some
-      (⊎-elim (λ p. well-other cs n whole (p .0 .taken) (sym (p .1 .ensures) ∙ p .2 .left)) (λ p. well-several cs n whole (p .left)) (c .before .if3 .came))
+    (⊎-elim (λ p. well-other cs n whole (p .0 .taken) (sym (p .1 .ensures) ∙ p .2 .left)) (λ p. well-several cs n whole (p .left)) (c .before .if3 .came))
 
 pub well-formed-spec : {M : Type 1} → statement M
 well-formed-spec =
