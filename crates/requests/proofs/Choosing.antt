@@ -164,7 +164,8 @@ module _ {n end i k : ℕ} {cs ws : List ℕ} (C : Chosen n cs end i k ws) where
           same = ap (λ js. take k ws ++ js) (nothing c) ∙ same;
         }
       where
-        nothing : saysComplete (f ∷ next .0) ≡ true → choice (asked (next .0)) (C .least) (end - C .least) ≡ choice (asked (f ∷ next .0)) (C .least) (end - C .least)
+        nothing : saysComplete (f ∷ next .0) ≡ true
+            → choice (asked (next .0)) (C .least) (end - C .least) ≡ choice (asked (f ∷ next .0)) (C .least) (end - C .least)
         nothing c = choice-same (asked (next .0)) (asked (f ∷ next .0)) (C .least) (end - C .least) (λ j l h. complete-behind f (next .0) c j)
 
     -- that asks

@@ -36,6 +36,7 @@ module _ (cs : List ℕ) where
     same-lines : counting cs ≡ n
     same-lines = omega arith
 
+    -- they say complete
     pub well-complete : true ≡ holds saysComplete (allFields (cutting n cs)) → true ≡ Well cs
     well-complete e = rw same-lines (go (allFields (cutting n cs)) e)
       where
@@ -44,6 +45,7 @@ module _ (cs : List ℕ) where
         go (some []) q = unfold saysComplete in absurd (true≢false q)
         go (some (f ∷ fs)) q = unfold wellFormed in rw (sym q) refl
 
+    -- or they do not, and are to ask
     pub well-asks : 0 < n → holds saysComplete (allFields (cutting n cs)) ≡ false → holds (ascend n 0 0) (allFields (cutting n cs)) ≡ Well cs
     unfolding wellFormed
     well-asks h e = rw same-lines (go (allFields (cutting n cs)) refl e)
@@ -53,10 +55,11 @@ module _ (cs : List ℕ) where
         go (some []) l q = absurd (omega (arith, lines-count n cs [] l))
         go (some (f ∷ fs)) l q = let c : length (f ∷ fs) ≡ n = lines-count n cs (f ∷ fs) l in rw (q, c) refl
 
+    -- the only line does not
     pub well-other : n ≡ 1 → holds saysComplete (allFields (cutting 1 cs)) ≡ false → holds saysComplete (allFields (cutting n cs)) ≡ false
     well-other h e = rw h e
 
-    -- more than one line do not say complete
+    -- more than one line never do
     pub well-several : n ≢ 1 → holds saysComplete (allFields (cutting n cs)) ≡ false
     well-several h = go (allFields (cutting n cs)) refl
       where

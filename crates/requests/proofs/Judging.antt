@@ -35,12 +35,14 @@ pub six-none : {r : Parsed} {o : Option model.Frame} {f : Fault} → sixOf r ≡
 six-none e g = sym e ∙ rw g refl
 
 pub run-one : (batch count place first last : ℕ) → first ≡ last
-    → record { batch = batch; index = place; count = count; kind = 16; key = first; value = 0 } ≡ runLine batch count place (record { first = first; last = last })
+    → record { batch = batch; index = place; count = count; kind = 16; key = first; value = 0 }
+    ≡ runLine batch count place (record { first = first; last = last })
 unfolding runLine
 run-one batch count place first last e = rw (eq-eqb first last e, runLine) refl
 
 pub run-more : (batch count place first last : ℕ) → first ≢ last
-    → record { batch = batch; index = place; count = count; kind = 17; key = first; value = last } ≡ runLine batch count place (record { first = first; last = last })
+    → record { batch = batch; index = place; count = count; kind = 17; key = first; value = last }
+    ≡ runLine batch count place (record { first = first; last = last })
 unfolding runLine
 run-more batch count place first last n = rw (ne-eqb first last n, runLine) refl
 

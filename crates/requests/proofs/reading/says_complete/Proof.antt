@@ -11,7 +11,8 @@ use Rattle.requests.proofs.reading.says_complete.Statement.{statement}
 use Rattle.requests.proofs.reading.says_complete.Tie as tie
 
 -- the line that was read
-line : (c : tie.After-known-told) → sixFields (piece (c .before .before .before .before .before .args .request .now) 0) ≡ some (fieldsOf (c .before .f .given .0 .0))
+line : (c : tie.After-known-told)
+    → sixFields (piece (c .before .before .before .before .before .args .request .now) 0) ≡ some (fieldsOf (c .before .f .given .0 .0))
 line c = six-good (c .before .before .before .line-at .ensures) (c .before .f .given .1)
 
 stands : (c : tie.Else1) → inPlace 1 0 (fieldsOf (c .before .before .before .f .given .0 .0)) ≡ true

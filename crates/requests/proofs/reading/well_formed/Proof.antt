@@ -13,7 +13,7 @@ returns : tie.Need-returns
 returns c = well-none (c .before .before .args .request .now) (c .if1 .taken)
 
 returns-2 : tie.Need-returns-2
-returns-2 c = well-over (c .before .before .before .args .request .now) (c .if2 .taken)
+returns-2 c = well-over (c .before .before .before .args .request .now) (λ e. omega (arith, c .if2 .taken))
 
 says-complete-requires : tie.Need-says-complete-requires
 says-complete-requires c κs = search needs

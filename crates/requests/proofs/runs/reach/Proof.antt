@@ -28,7 +28,9 @@ loop-less : tie.Need-loop-less Inv-loop μ-loop
 loop-less c = omega (arith, c .before .before .loop-test .taken)
 
 loop-again : tie.Need-loop-again Inv-loop μ-loop
-loop-again c = passed-more (c .before .before .before .loop .inv) (c .before .before .loop-test .taken) (sym (c .before .heard .ensures) ∙ same-is _ _ (c .if1 .left))
+loop-again c =
+    let t = c .before .before in
+    passed-more (t .before .loop .inv) (t .loop-test .taken) (sym (c .before .heard .ensures) ∙ same-is _ _ (c .if1 .left))
 
 returns-2 : tie.Need-returns-2 Inv-loop μ-loop
 returns-2 c = passed-all (c .before .loop .inv) (c .loop-test .left)
