@@ -50,7 +50,7 @@ cutting-lines (f ∷ fs) =
     let l = line-length f in
     rw (take-at (line f) (laid (map line fs)) 35 l, drop-at (line f) (laid (map line fs)) 35 l) (ap (λ ps. line f ∷ ps) (cutting-lines fs))
 
-lines-long : (fs : List Frame) → length (laid (map line fs)) ≡ 35 * length fs
+pub lines-long : (fs : List Frame) → length (laid (map line fs)) ≡ 35 * length fs
 unfolding laid
 lines-long [] = refl
 lines-long (f ∷ fs) = omega (arith, length-append (line f) (laid (map line fs)), line-length f, lines-long fs)

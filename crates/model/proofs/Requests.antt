@@ -80,7 +80,7 @@ unfolding requestLines asked asks Covers
 lines-asked batch gap least [] S i = ((λ e. absurd (false≢true e)), (λ c. absurd c))
 lines-asked batch gap least (r ∷ rs) S i = placed-asked batch (length (r ∷ rs)) 0 gap least (r ∷ rs) S i
 
-placed-length : (batch count place : ℕ) (rs : List Run) → length (placed batch count place rs) ≡ length rs
+pub placed-length : (batch count place : ℕ) (rs : List Run) → length (placed batch count place rs) ≡ length rs
 unfolding placed
 placed-length batch count place [] = refl
 placed-length batch count place (r ∷ rs) = ap suc (placed-length batch count (suc place) rs)
