@@ -48,12 +48,12 @@ module _ (batch puts : ℕ) (ws : List ℕ) (i : ℕ) where
   frame-remove (suc n) at ne a h = rw a (ap (frameOf batch (suc n) i) (change-remove h))
 
 module _ (batch puts : ℕ) (ws : List ℕ) where
-  frames-long : (n : ℕ) → length (framesOf batch (changesIn puts ws n 0)) ≡ atLeastOne n
+  pub frames-long : (n : ℕ) → length (framesOf batch (changesIn puts ws n 0)) ≡ atLeastOne n
   unfolding framesOf changesIn
   frames-long zero = refl
   frames-long (suc n) = let l = changes-length puts ws (suc n) 0 in frames-length batch (changesIn puts ws (suc n) 0) (omega arith) ∙ l
 
-  frame-in : (n i : ℕ) → i < atLeastOne n → frameAt (framesOf batch (changesIn puts ws n 0)) i ≡ frameIn batch puts n ws i
+  pub frame-in : (n i : ℕ) → i < atLeastOne n → frameAt (framesOf batch (changesIn puts ws n 0)) i ≡ frameIn batch puts n ws i
   unfolding framesOf changesIn frameIn
   frame-in zero zero h = refl
   frame-in zero (suc i) h = absurd (omega arith)

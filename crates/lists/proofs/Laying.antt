@@ -34,6 +34,10 @@ pub record Laid (ps : List (List ℕ)) (start k : ℕ) (o out : List ℕ) (i : �
   pub most : i ≤ k
   pub is : out ≡ laid (take i (drop start ps)) ++ drop (35 * i) o
 
+-- n bytes of the pieces from `start` on are written to o, which is `after` then
+abbrev pub Wrote : (ps : List (List ℕ)) (start : ℕ) (o : List ℕ) (n : ℕ) (after : List ℕ) → Type 0
+Wrote ps start o n after = (n ≡ length (part 35 start (length o) ps)) × (after ≡ over (part 35 start (length o) ps) o)
+
 pub laid-none : {ps : List (List ℕ)} {start k : ℕ} {o : List ℕ} → Wide 35 ps → k ≡ min (length o / 35) (length ps - start) → Laid ps start k o o 0
 unfolding laid
 laid-none w e = record { wide = w; room = e; most = omega arith; is = refl }
@@ -71,7 +75,7 @@ module _ {ps : List (List ℕ)} {start k : ℕ} {o out : List ℕ} {i : ℕ} (L 
       }
 
   -- all are written
-  pub laid-all : i ≡ k → (35 * k ≡ length (part 35 start (length o) ps)) × (out ≡ over (part 35 start (length o) ps) o)
+  pub laid-all : i ≡ k → Wrote ps start o (35 * k) out
   laid-all e =
       let r : k ≡ min (length o / 35) (length q) = rw (length-drop start ps) (L .room) in
       let t : part 35 start (length o) ps ≡ front = rw (e, r) (ap laid (sym (take-min (length o / 35) q))) in

@@ -5,4 +5,7 @@ pub mod Holding
 pub mod Collecting
 pub mod Framing
 pub mod Sending
+pub mod Asking
+pub mod Choosing
+pub mod Resending
 pub mod Comparing

@@ -1,9 +1,11 @@
 -- What was collected and written is what the call answers: the lines of the words are the delta's lines.
 use mathlib.Core.Path.{_≡_, refl, ap, sym, subst, _∙_}
 use Prim.Native.Nat.{ℕ, _≤_}
+use mathlib.Core.Bool.{true}
 use mathlib.Core.List.{List, map}
 use lib.ListN.{length}
 use Rattle.model.specs.Tree.{Tree}
+use Rattle.model.specs.Delta.{deltaDeep}
 use Rattle.model.specs.Heap.{version}
 use Rattle.model.specs.Block.{heap}
 use Rattle.model.specs.Numbers.{TOO_DEEP}
@@ -32,11 +34,14 @@ module _ {b ws : List ℕ} {a c : ℕ} {q : Collected} (G : Gathered b a c ws q)
   begun : (batch : ℕ) → Begun b (framed b a c batch)
   begun batch = record { sound = G .admitted .sound; versions = two-known (G .admitted .first) (G .admitted .second) }
 
-  held : {p n : ℕ} → q ≡ Changes p n → Collects A C ws (Changes p n)
+  pub held : {p n : ℕ} → q ≡ Changes p n → Collects A C ws (Changes p n)
   held e = subst (λ x. Collects A C ws x) e (G .is)
 
+  pub too-deep : q ≡ TooDeep → deltaDeep A C ≡ true
+  too-deep e = subst (λ x. Collects A C ws x) e (G .is)
+
   pub gathered-deep : {out : List ℕ} (start batch : ℕ) (r : Report) → q ≡ TooDeep → r ≡ refused TOO_DEEP → Lists b out out start (framed b a c batch) r
-  gathered-deep start batch r e f = lists-deep start (framed b a c batch) (begun batch) r (subst (λ x. Collects A C ws x) e (G .is)) f refl
+  gathered-deep start batch r e f = lists-deep start (framed b a c batch) (begun batch) r (too-deep e) f refl
 
   pub gathered-few : {p n : ℕ} → q ≡ Changes p n → n ≤ 4096
   gathered-few e = held e .2
