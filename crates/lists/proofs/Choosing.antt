@@ -28,11 +28,12 @@ module _ (batch puts count : ℕ) (ws : List ℕ) (n : ℕ) (chosen : List ℕ) 
     pub chosen-long : length (chosenIn batch puts count ws n chosen) ≡ n
     chosen-long = chosen-many ∙ length-take-le n chosen h
 
-    pub chosen-at : (i : ℕ) → i < n → {f : Frame} → f ≡ frameIn batch puts count ws (getD chosen i 0) → line f ≡ getD (chosenIn batch puts count ws n chosen) i []
+    pub chosen-at : {at : ℕ} (i : ℕ) → at ≡ i → i < n → {f : Frame} → f ≡ frameIn batch puts count ws (getD chosen at 0) → line f ≡ getD (chosenIn batch puts count ws n chosen) i []
     unfolding chosenIn
-    chosen-at i l e =
+    chosen-at i a l e =
         let m = length-take-le n chosen h in
-        ap line e ∙ sym (map-at (λ i. line (frameIn batch puts count ws i)) (take n chosen) i 0 [] (omega arith) ∙ ap (λ j. line (frameIn batch puts count ws j)) (getD-take n chosen i 0 l))
+        let f : ℕ → List ℕ = λ j. line (frameIn batch puts count ws j) in
+        ap line e ∙ ap (λ j. f (getD chosen j 0)) a ∙ sym (map-at f (take n chosen) i 0 [] (omega arith) ∙ ap f (getD-take n chosen i 0 l))
 
 -- the indexes that are wanted of n from i on
 pub choice-few : (want : ℕ → Bool) (i n : ℕ) → length (choice want i n) ≤ n

@@ -43,7 +43,10 @@ module _ (cs : List ℕ) where
     where
       go : (o : Option (List Frame)) → allFields (cutting (counting cs) cs) ≡ o → readRequest cs ≡ none
       go none q = rw (q, readRequest) refl
-      go (some fs) q = let w : wellFormed fs ≡ false = rw q at e in rw (q, readRequest) (rw w refl)
+      go (some fs) q =
+          let w : wellFormed fs ≡ false = rw q at e in
+          let left : _≡_ {A = Option (List Frame)} (elim (wellFormed fs) [ true ↦ some fs | false ↦ none ]) none = rw w in
+          rw (q, readRequest) left
 
   pub is-read : (n : ℕ) → n ≡ length cs / 35 → tested ≡ true → (fs : List Frame) × Read cs n fs
   unfolding readRequest
@@ -53,7 +56,8 @@ module _ (cs : List ℕ) where
       go none q = absurd (true≢false (sym (rw q at e)))
       go (some fs) q =
           let w : wellFormed fs ≡ true = rw q at e in
-          let r : readRequest cs ≡ some fs = rw (q, readRequest) (rw w refl) in
+          let kept : elim (wellFormed fs) [ true ↦ some fs | false ↦ none ] ≡ some fs = rw w in
+          let r : readRequest cs ≡ some fs = rw (q, readRequest) kept in
           let long : length cs ≡ 35 * length fs = ap length (read-exactly cs fs .0 r .0) ∙ lines-long fs in
           let same : counting cs ≡ n = omega (arith, k, long) in
           (fs, record { whole = omega (arith, k, long); lines = ap (λ m. allFields (cutting m cs)) (sym same) ∙ q; well = w; is = r })
@@ -62,18 +66,25 @@ module _ (cs : List ℕ) where
 pub read-holds : {cs : List ℕ} {n : ℕ} {fs : List Frame} → Read cs n fs → (T : List Frame → Bool) → holds T (allFields (cutting n cs)) ≡ T fs
 read-holds R T = ap (holds T) (R .lines)
 
--- the indexes below `end` that were chosen
-module _ {cs : List ℕ} {n : ℕ} {fs : List Frame} (R : Read cs n fs) {end total : ℕ} {chosen : List ℕ} (C : Chooses (allFields (cutting n cs)) end total chosen) where
-  picked : Chooses (some fs) end total chosen
-  picked = subst (λ o. Chooses o end total chosen) (R .lines) C
+-- the indexes below `end` that its lines ask for are chosen
+pub record Picked (fs : List Frame) (end total : ℕ) (chosen : List ℕ) : Type 0 where
+  pub count : total ≡ length (choice (asked fs) 0 end)
+  pub are : take total chosen ≡ choice (asked fs) 0 end
 
+pub picked : {cs : List ℕ} {n : ℕ} {fs : List Frame} → Read cs n fs → {end m : ℕ} (total : ℕ) (chosen : List ℕ) → end ≡ m → Chooses (allFields (cutting n cs)) end total chosen → Picked fs m total chosen
+picked {cs} {n} {fs} R {end} {m} total chosen e C =
+    let c = subst (λ o. Chooses o end total chosen) (R .lines) C in
+    let same = ap (choice (asked fs) 0) e in
+    record { count = c .0 ∙ ap length same; are = c .1 ∙ same }
+
+module _ {fs : List Frame} {end total : ℕ} {chosen : List ℕ} (P : Picked fs end total chosen) where
   pub picked-few : total ≤ end
-  picked-few = omega (arith, picked .0, choice-few (asked fs) 0 end)
+  picked-few = omega (arith, P .count, choice-few (asked fs) 0 end)
 
   pub picked-below : (i : ℕ) → i < total → getD chosen i 0 < end
   picked-below i h =
-      let e : getD chosen i 0 ≡ getD (choice (asked fs) 0 end) i 0 = sym (getD-take total chosen i 0 h) ∙ ap (λ xs. getD xs i 0) (picked .1) in
-      omega (arith, e, choice-below (asked fs) 0 end i (omega (arith, picked .0)))
+      let e : getD chosen i 0 ≡ getD (choice (asked fs) 0 end) i 0 = sym (getD-take total chosen i 0 h) ∙ ap (λ xs. getD xs i 0) (P .are) in
+      omega (arith, e, choice-below (asked fs) 0 end i (omega (arith, P .count)))
 
 -- a check of the block or of the versions fails
 pub resend-refused : {n : ℕ} {out : List ℕ} (p : Primary) (request : List ℕ) (start : ℕ) (a : Report) → Admitted (p .block) (p .from ∷ p .to ∷ []) n → n ≢ 0 → a ≡ refused n → Resend p request out out start a
@@ -82,7 +93,7 @@ resend-refused p request start a (passes q (fails s r)) ne e = passes q (fails s
 resend-refused p request start a (passes q (passes s (fails u r))) ne e = passes q (passes s (fails u (e ∙ ap refused r, refl)))
 resend-refused p request start a (passes q (passes s (passes u r))) ne e = absurd (ne r)
 
-module _ (p : Primary) {request out after : List ℕ} (start : ℕ) (a : Report) (A : Admission (p .block) (p .from) (p .to) (p .to)) where
+module _ (p : Primary) (request : List ℕ) {out after : List ℕ} (start : ℕ) (a : Report) (A : Admission (p .block) (p .from) (p .to) (p .to)) where
   admitted : {o : Option (List Frame)} → readRequest request ≡ o → Sends p o out after start a → Resend p request out after start a
   admitted e s = passes (A .sound .shaped) (passes (A .sound) (passes (two-known (A .first) (A .second)) (subst (λ o. Sends p o out after start a) (sym e) s)))
 
@@ -97,15 +108,13 @@ module _ (p : Primary) {request out after : List ℕ} (start : ℕ) (a : Report)
       pub resend-deep : q ≡ TooDeep → a ≡ refused TOO_DEEP → after ≡ out → Resend p request out after start a
       resend-deep e r k = admitted (R .is) (passes own (fails (λ t. true≢false (sym (too-deep G e) ∙ t)) (r, k)))
 
-      pub resend-done : {end total : ℕ} {chosen : List ℕ} (puts m w : ℕ) → q ≡ Changes puts m → end ≡ atLeastOne m → Chooses (allFields (cutting n request)) end total chosen
-          → Wrote (chosenIn (p .batch) puts m ws total chosen) start out w after
+      pub resend-done : {total : ℕ} {chosen : List ℕ} (puts m w : ℕ) → q ≡ Changes puts m → Picked fs (atLeastOne m) total chosen → Wrote (chosenIn (p .batch) puts m ws total chosen) start out w after
           → a ≡ record { number = 0; written = w; total = total } → Resend p request out after start a
-      resend-done {end} {total} {chosen} puts m w e s C d r =
+      resend-done {total} {chosen} puts m w e P d r =
           let h = held G e in
-          let P = picked R C in
           let sent = wanted (asked fs) 0 (frames (p .batch) (version (heap (p .block)) (p .from)) (version (heap (p .block)) (p .to))) in
           let L : chosenIn (p .batch) puts m ws total chosen ≡ map line sent =
-          chosen-wanted (asked fs) (p .batch) puts m ws chosen total (P .1 ∙ ap (choice (asked fs) 0) s) ∙ ap (λ cs. map line (wanted (asked fs) 0 (framesOf (p .batch) cs))) (h .1) in
-          let t : total ≡ length sent = P .0 ∙ ap length (sym (P .1)) ∙ sym (chosen-many (p .batch) puts m ws total chosen) ∙ ap length L ∙ length-map sent line in
+          chosen-wanted (asked fs) (p .batch) puts m ws chosen total (P .are) ∙ ap (λ cs. map line (wanted (asked fs) 0 (framesOf (p .batch) cs))) (h .1) in
+          let t : total ≡ length sent = P .count ∙ ap length (sym (P .are)) ∙ sym (chosen-many (p .batch) puts m ws total chosen) ∙ ap length L ∙ length-map sent line in
           let u : w ≡ length (part 35 start (length out) (map line sent)) = d .0 ∙ ap (λ ls. length (part 35 start (length out) ls)) L in
           admitted (R .is) (passes own (passes (h .0) (r ∙ rw (u, t) refl, d .1 ∙ ap (λ ls. over (part 35 start (length out) ls) out) L)))

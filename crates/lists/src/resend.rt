@@ -12,7 +12,7 @@ use requests::reading::of_batch;
 use requests::reading::well_formed;
 use table::checks::admit;
 ghost use mathlib.Core.Path.{_≡_};
-ghost use Prim.Native.Nat.{_*_, _<_, _≤_};
+ghost use Prim.Native.Nat.{ℕ, _*_, _<_, _≤_};
 ghost use lib.ListN.{length, getD};
 ghost use Rattle.model.specs.Lists.{part, over};
 ghost use Rattle.model.specs.Request.{Resend};
