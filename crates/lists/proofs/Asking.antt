@@ -13,10 +13,10 @@ use Rattle.model.specs.Frame.{Frame, line}
 use Rattle.model.specs.Inbox.{batchOf, countOf, heardAt, SoundInbox}
 use Rattle.model.specs.Calls.{fails, passes}
 use Rattle.model.specs.Link.{CheckedInbox}
-use Rattle.model.specs.Lists.{Report, part, over}
+use Rattle.model.specs.Lists.{Report}
 use Rattle.model.specs.Request.{Run, runLine, placed, requestLines, missingRuns, unheard, requestOf, Ask}
 use Rattle.model.proofs.Lines.{line-length}
-use Rattle.model.proofs.Cutting.{Wide, wide-map}
+use Rattle.model.proofs.Cutting.{wide-map}
 use Rattle.model.proofs.Requests.{placed-length, request-most}
 use Rattle.requests.specs.declared.runs.Found.{Found}
 use Rattle.requests.specs.declared.runs.Found.the-variants as found
@@ -72,10 +72,13 @@ module _ (x : List ℕ) where
     where
       go : (n : ℕ) → length (runsFrom x 0) ≡ n → length (runsFrom x 0) ≤ 2048
       go zero e = omega (arith, e)
-      go (suc n) e = omega (arith, request-most x S, ap length (runs-request (λ z. omega (arith, e, z))), placed-length (batchOf x) (length (runsFrom x 0)) 0 (runsFrom x 0))
+      go (suc n) e =
+          let same = runs-request (λ z. omega (arith, e, z)) in
+          omega (arith, request-most x S, ap length same, placed-length (batchOf x) (length (runsFrom x 0)) 0 (runsFrom x 0))
 
 -- the line of the run that stands behind n others
-placed-at : (batch count place n : ℕ) (rs : List Run) {r : Run} {qs : List Run} → drop n rs ≡ r ∷ qs → line (runLine batch count (place + n) r) ≡ getD (map line (placed batch count place rs)) n []
+placed-at : (batch count place n : ℕ) (rs : List Run) {r : Run} {qs : List Run} → drop n rs ≡ r ∷ qs
+    → line (runLine batch count (place + n) r) ≡ getD (map line (placed batch count place rs)) n []
 unfolding placed
 placed-at batch count place zero [] e = let z : _≡_ {A = ℕ} 0 1 = cc e in absurd (omega arith)
 placed-at batch count place zero (q ∷ rs) {r} e =
@@ -83,7 +86,9 @@ placed-at batch count place zero (q ∷ rs) {r} e =
     let here : place + 0 ≡ place = omega arith in
     rw (same, here) refl
 placed-at batch count place (suc n) [] e = let z : _≡_ {A = ℕ} 0 1 = cc e in absurd (omega arith)
-placed-at batch count place (suc n) (q ∷ rs) {r} e = let next : place + suc n ≡ suc place + n = omega arith in rw next (placed-at batch count (suc place) n rs e)
+placed-at batch count place (suc n) (q ∷ rs) e =
+    let next : place + suc n ≡ suc place + n = omega arith in
+    rw next (placed-at batch count (suc place) n rs e)
 
 -- the lines of all runs
 abbrev pub runLines : (x : List ℕ) (count : ℕ) → List (List ℕ)
@@ -108,8 +113,9 @@ module _ {x : List ℕ} {count start k : ℕ} {o : List ℕ} (R : Ready x count 
 
   none-laid : Laid (runLines x count) start k o o 0
   none-laid =
-      let many : length (runLines x count) ≡ count = length-map (placed (batchOf x) count 0 (runsFrom x 0)) line ∙ placed-length (batchOf x) count 0 (runsFrom x 0) ∙ sym (R .is) in
-      laid-none (wide-map 35 line line-length (placed (batchOf x) count 0 (runsFrom x 0))) (rw many (R .room))
+      let fs = placed (batchOf x) count 0 (runsFrom x 0) in
+      let many : length (runLines x count) ≡ count = length-map fs line ∙ placed-length (batchOf x) count 0 (runsFrom x 0) ∙ sym (R .is) in
+      laid-none (wide-map 35 line line-length fs) (rw many (R .room))
 
   pub asking-none : k ≡ 0 → Wrote (runLines x count) start o 0 o
   asking-none z = let d = laid-all none-laid (sym z) in (omega (arith, z, d .0), d .1)
@@ -160,11 +166,16 @@ inbox-sound (passes p (fails q r)) z = let e : _≡_ {A = ℕ} 2 0 = sym r ∙ z
 inbox-sound (passes p (passes q r)) z = q
 
 module _ {x out after : List ℕ} (S : SoundInbox x) (start : ℕ) (a : Report) where
-  asked : {fs : List Frame} {w t : ℕ} → requestOf x ≡ fs → Wrote (map line fs) start out w after → t ≡ length fs → a ≡ record { number = 0; written = w; total = t } → Ask x out after start a
+  asked : {fs : List Frame} {w t : ℕ} → requestOf x ≡ fs → Wrote (map line fs) start out w after → t ≡ length fs
+      → a ≡ record { number = 0; written = w; total = t } → Ask x out after start a
   asked e d g r = passes (S .long) (passes S (rw e (r ∙ rw (d .0, g) refl, d .1)))
 
-  pub ask-one : {n w : ℕ} {f : Frame} → n ≡ length (runsFrom x 0) → n ≡ 0 → f ≡ aloneOf (batchOf x) (countOf x) → Wrote (line f ∷ []) start out w after → a ≡ record { number = 0; written = w; total = 1 } → Ask x out after start a
+  pub ask-one : {n w : ℕ} {f : Frame} → n ≡ length (runsFrom x 0) → n ≡ 0 → f ≡ aloneOf (batchOf x) (countOf x)
+      → Wrote (line f ∷ []) start out w after → a ≡ record { number = 0; written = w; total = 1 } → Ask x out after start a
   ask-one e z g d r = asked (none-request x (sym e ∙ z) ∙ ap (λ (h : Frame). h ∷ []) (sym g)) d refl r
 
-  pub ask-runs : {n w : ℕ} → n ≡ length (runsFrom x 0) → n ≢ 0 → Wrote (runLines x n) start out w after → a ≡ record { number = 0; written = w; total = n } → Ask x out after start a
-  ask-runs {n} e ne d r = asked (runs-request x (λ z. ne (e ∙ z)) ∙ ap (λ m. placed (batchOf x) m 0 (runsFrom x 0)) (sym e)) d (e ∙ sym (placed-length (batchOf x) n 0 (runsFrom x 0))) r
+  pub ask-runs : {n w : ℕ} → n ≡ length (runsFrom x 0) → n ≢ 0 → Wrote (runLines x n) start out w after
+      → a ≡ record { number = 0; written = w; total = n } → Ask x out after start a
+  ask-runs {n} e ne d r =
+      let same = runs-request x (λ z. ne (e ∙ z)) ∙ ap (λ m. placed (batchOf x) m 0 (runsFrom x 0)) (sym e) in
+      asked same d (e ∙ sym (placed-length (batchOf x) n 0 (runsFrom x 0))) r

@@ -28,7 +28,8 @@ module _ (batch puts count : ℕ) (ws : List ℕ) (n : ℕ) (chosen : List ℕ) 
     pub chosen-long : length (chosenIn batch puts count ws n chosen) ≡ n
     chosen-long = chosen-many ∙ length-take-le n chosen h
 
-    pub chosen-at : {at : ℕ} (i : ℕ) → at ≡ i → i < n → {f : Frame} → f ≡ frameIn batch puts count ws (getD chosen at 0) → line f ≡ getD (chosenIn batch puts count ws n chosen) i []
+    pub chosen-at : {at : ℕ} (i : ℕ) → at ≡ i → i < n → {f : Frame} → f ≡ frameIn batch puts count ws (getD chosen at 0)
+        → line f ≡ getD (chosenIn batch puts count ws n chosen) i []
     unfolding chosenIn
     chosen-at i a l e =
         let m = length-take-le n chosen h in
@@ -50,13 +51,19 @@ unfolding choice
 choice-below want i zero j h = absurd (omega arith)
 choice-below want i (suc n) j h = go (want i) refl j h (λ k l. choice-below want (suc i) n k l)
   where
-    go : (b : Bool) → want i ≡ b → (j : ℕ) → j < length (choice want i (suc n)) → ((k : ℕ) → k < length (choice want (suc i) n) → getD (choice want (suc i) n) k 0 < suc i + n) → getD (choice want i (suc n)) j 0 < i + suc n
+    go : (b : Bool) → want i ≡ b → (j : ℕ) → j < length (choice want i (suc n)) → ((k : ℕ) → k < length (choice want (suc i) n) → getD (choice want (suc i) n) k 0 < suc i + n)
+        → getD (choice want i (suc n)) j 0 < i + suc n
     go true e zero h IH = rw (e, choice) (omega arith)
-    go true e (suc j) h IH = let l : suc j < suc (length (choice want (suc i) n)) = rw (e, choice) at h in rw (e, choice) (omega (arith, IH j (omega (arith, l))))
-    go false e j h IH = let l : j < length (choice want (suc i) n) = rw (e, choice) at h in rw (e, choice) (omega (arith, IH j l))
+    go true e (suc j) h IH =
+        let l : suc j < suc (length (choice want (suc i) n)) = rw (e, choice) at h in
+        rw (e, choice) (omega (arith, IH j (omega (arith, l))))
+    go false e j h IH =
+        let l : j < length (choice want (suc i) n) = rw (e, choice) at h in
+        rw (e, choice) (omega (arith, IH j l))
 
 -- wanted frames are those at the wanted indexes
-wanted-choice : (want : ℕ → Bool) (i : ℕ) (fs : List Frame) (g : ℕ → Frame) → ((j : ℕ) → j < length fs → frameAt fs j ≡ g (i + j)) → map line (wanted want i fs) ≡ map (λ j. line (g j)) (choice want i (length fs))
+wanted-choice : (want : ℕ → Bool) (i : ℕ) (fs : List Frame) (g : ℕ → Frame) → ((j : ℕ) → j < length fs → frameAt fs j ≡ g (i + j))
+    → map line (wanted want i fs) ≡ map (λ j. line (g j)) (choice want i (length fs))
 unfolding wanted choice
 wanted-choice want i [] g e = refl
 wanted-choice want i (f ∷ fs) g e = go (want i) refl (wanted-choice want (suc i) fs g (λ j l. e (suc j) (omega arith) ∙ ap g (omega arith)))
@@ -64,7 +71,8 @@ wanted-choice want i (f ∷ fs) g e = go (want i) refl (wanted-choice want (suc 
     here : f ≡ g i
     here = e 0 (omega arith) ∙ ap g (omega arith)
 
-    go : (b : Bool) → want i ≡ b → map line (wanted want (suc i) fs) ≡ map (λ j. line (g j)) (choice want (suc i) (length fs)) → map line (wanted want i (f ∷ fs)) ≡ map (λ j. line (g j)) (choice want i (length (f ∷ fs)))
+    go : (b : Bool) → want i ≡ b → map line (wanted want (suc i) fs) ≡ map (λ j. line (g j)) (choice want (suc i) (length fs))
+        → map line (wanted want i (f ∷ fs)) ≡ map (λ j. line (g j)) (choice want i (length (f ∷ fs)))
     go true q IH = rw (q, wanted, choice) (rw (here, IH) refl)
     go false q IH = rw (q, wanted, choice) IH
 
@@ -75,5 +83,6 @@ unfolding chosenIn
 chosen-wanted want batch puts n ws chosen total e =
     let fs = framesOf batch (changesIn puts ws n 0) in
     let l = frames-long batch puts ws n in
-    let is : (j : ℕ) → j < length fs → frameAt fs j ≡ frameIn batch puts n ws (0 + j) = λ j h. frame-in batch puts ws n j (omega arith) ∙ ap (frameIn batch puts n ws) (omega arith) in
-    rw e (sym (wanted-choice want 0 fs (frameIn batch puts n ws) is ∙ rw l refl))
+    let g = frameIn batch puts n ws in
+    let is : (j : ℕ) → j < length fs → frameAt fs j ≡ g (0 + j) = λ j h. frame-in batch puts ws n j (omega arith) ∙ ap g (omega arith) in
+    rw e (sym (wanted-choice want 0 fs g is ∙ rw l refl))

@@ -1,7 +1,7 @@
 -- What resend answers behind each check: a request that is read, its batch, the depth, and the asked lines.
 use mathlib.Core.Path.{_≡_, refl, ap, sym, subst, _∙_}
 use mathlib.Core.Logic.{_≢_}
-use Prim.Native.Nat.{ℕ, _+_, _*_, _/_, _≤_, _<_}
+use Prim.Native.Nat.{ℕ, _*_, _/_, _≤_, _<_}
 use mathlib.Core.Bool.{Bool, true, false, true≢false}
 use mathlib.Core.Option.{Option, none, some}
 use mathlib.Core.List.{List, [], _∷_, map}
@@ -71,7 +71,8 @@ pub record Picked (fs : List Frame) (end total : ℕ) (chosen : List ℕ) : Type
   pub count : total ≡ length (choice (asked fs) 0 end)
   pub are : take total chosen ≡ choice (asked fs) 0 end
 
-pub picked : {cs : List ℕ} {n : ℕ} {fs : List Frame} → Read cs n fs → {end m : ℕ} (total : ℕ) (chosen : List ℕ) → end ≡ m → Chooses (allFields (cutting n cs)) end total chosen → Picked fs m total chosen
+pub picked : {cs : List ℕ} {n : ℕ} {fs : List Frame} → Read cs n fs → {end m : ℕ} (total : ℕ) (chosen : List ℕ) → end ≡ m → Chooses (allFields (cutting n cs)) end total chosen
+    → Picked fs m total chosen
 picked {cs} {n} {fs} R {end} {m} total chosen e C =
     let c = subst (λ o. Chooses o end total chosen) (R .lines) C in
     let same = ap (choice (asked fs) 0) e in
@@ -87,7 +88,8 @@ module _ {fs : List Frame} {end total : ℕ} {chosen : List ℕ} (P : Picked fs 
       omega (arith, e, choice-below (asked fs) 0 end i (omega (arith, P .count)))
 
 -- a check of the block or of the versions fails
-pub resend-refused : {n : ℕ} {out : List ℕ} (p : Primary) (request : List ℕ) (start : ℕ) (a : Report) → Admitted (p .block) (p .from ∷ p .to ∷ []) n → n ≢ 0 → a ≡ refused n → Resend p request out out start a
+pub resend-refused : {n : ℕ} {out : List ℕ} (p : Primary) (request : List ℕ) (start : ℕ) (a : Report) → Admitted (p .block) (p .from ∷ p .to ∷ []) n → n ≢ 0
+    → a ≡ refused n → Resend p request out out start a
 resend-refused p request start a (fails q r) ne e = fails q (e ∙ ap refused r, refl)
 resend-refused p request start a (passes q (fails s r)) ne e = passes q (fails s (e ∙ ap refused r, refl))
 resend-refused p request start a (passes q (passes s (fails u r))) ne e = passes q (passes s (fails u (e ∙ ap refused r, refl)))
@@ -108,13 +110,16 @@ module _ (p : Primary) (request : List ℕ) {out after : List ℕ} (start : ℕ)
       pub resend-deep : q ≡ TooDeep → a ≡ refused TOO_DEEP → after ≡ out → Resend p request out after start a
       resend-deep e r k = admitted (R .is) (passes own (fails (λ t. true≢false (sym (too-deep G e) ∙ t)) (r, k)))
 
-      pub resend-done : {total : ℕ} {chosen : List ℕ} (puts m w : ℕ) → q ≡ Changes puts m → Picked fs (atLeastOne m) total chosen → Wrote (chosenIn (p .batch) puts m ws total chosen) start out w after
+      pub resend-done : {total : ℕ} {chosen : List ℕ} (puts m w : ℕ) → q ≡ Changes puts m → Picked fs (atLeastOne m) total chosen
+          → Wrote (chosenIn (p .batch) puts m ws total chosen) start out w after
           → a ≡ record { number = 0; written = w; total = total } → Resend p request out after start a
       resend-done {total} {chosen} puts m w e P d r =
           let h = held G e in
-          let sent = wanted (asked fs) 0 (frames (p .batch) (version (heap (p .block)) (p .from)) (version (heap (p .block)) (p .to))) in
-          let L : chosenIn (p .batch) puts m ws total chosen ≡ map line sent =
-          chosen-wanted (asked fs) (p .batch) puts m ws chosen total (P .are) ∙ ap (λ cs. map line (wanted (asked fs) 0 (framesOf (p .batch) cs))) (h .1) in
-          let t : total ≡ length sent = P .count ∙ ap length (sym (P .are)) ∙ sym (chosen-many (p .batch) puts m ws total chosen) ∙ ap length L ∙ length-map sent line in
+          let batch = p .batch in
+          let sent = wanted (asked fs) 0 (frames batch (version (heap (p .block)) (p .from)) (version (heap (p .block)) (p .to))) in
+          let L : chosenIn batch puts m ws total chosen ≡ map line sent =
+          chosen-wanted (asked fs) batch puts m ws chosen total (P .are) ∙ ap (λ cs. map line (wanted (asked fs) 0 (framesOf batch cs))) (h .1) in
+          let many = chosen-many batch puts m ws total chosen in
+          let t : total ≡ length sent = P .count ∙ ap length (sym (P .are)) ∙ sym many ∙ ap length L ∙ length-map sent line in
           let u : w ≡ length (part 35 start (length out) (map line sent)) = d .0 ∙ ap (λ ls. length (part 35 start (length out) ls)) L in
           admitted (R .is) (passes own (passes (h .0) (r ∙ rw (u, t) refl, d .1 ∙ ap (λ ls. over (part 35 start (length out) ls) out) L)))

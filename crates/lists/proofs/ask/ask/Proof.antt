@@ -40,7 +40,8 @@ returns-2 : tie.Need-returns-2
 returns-2 c =
     let w = c .before .before in
     let n = w .before .before .before .before in
-    ask-one (sound (n .before)) (start-of (n .before) .args .start) _ (n .run-count .ensures) (w .before .before .before .if2 .taken) (w .before .before .alone .ensures) (w .write-one .ensures) refl
+    let f = w .before .before in
+    ask-one (sound (n .before)) (start-of (n .before) .args .start) _ (n .run-count .ensures) (f .before .if2 .taken) (f .alone .ensures) (w .write-one .ensures) refl
 
 write-runs-requires : tie.Need-write-runs-requires
 write-runs-requires c κs = let n = c .before .before in (sound (n .before), n .run-count .ensures)

@@ -1,8 +1,7 @@
 -- Each turn writes the line of the next run behind those written, until the room or the runs are used up.
 use borrow.Author.Needs.{needs}
 use native.Mathlib.Omega.{arith}
-use mathlib.Core.Path.{_≡_}
-use Prim.Native.Nat.{_+_, _-_, _<_, _≤_}
+use Prim.Native.Nat.{_-_, _<_}
 use Rattle.lists.proofs.Laying.{laid-same, laid-all}
 use Rattle.lists.proofs.Asking.{Ready, Asking, ready-few, asking-none, asking-begun, asking-some, asking-last, asking-next}
 use Rattle.lists.proofs.ask.write_runs.Statement.{statement}
@@ -102,7 +101,8 @@ loop-again c =
     let g = w .before .before .before in
     let f = g .before .before .before in
     let t = turn-of f in
-    asking-next (t .before .loop .inv) (f .before .before .run-from .ensures) (t .loop-test .taken) (f .first .given .1) (w .before .wide .result) (w .before .wide .ensures) (g .run-line .ensures) (w .write .ensures)
+    let d = w .before in
+    asking-next (t .before .loop .inv) (f .before .before .run-from .ensures) (t .loop-test .taken) (f .first .given .1) _ (d .wide .ensures) (g .run-line .ensures) (w .write .ensures)
 
 mul-result-2 : tie.Need-mul-result-2 Inv-loop μ-loop
 mul-result-2 c = let f = ready-few (c .before .loop .inv .ready) in omega (arith, f .0, f .1)

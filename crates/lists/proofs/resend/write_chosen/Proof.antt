@@ -35,7 +35,8 @@ loop-holds : tie.Need-loop-holds Inv-loop μ-loop
 loop-holds c =
     let s = start-of c in
     let a = s .args in
-    laid-none (chosen-wide (a .batch) (a .puts) (a .count) (a .changes .now) (a .total) (a .chosen .now)) (rw (chosen-long (a .batch) (a .puts) (a .count) (a .changes .now) (a .total) (a .chosen .now) (s .pre .3)) (c .shown .ensures))
+    let long = chosen-long (a .batch) (a .puts) (a .count) (a .changes .now) (a .total) (a .chosen .now) (s .pre .3) in
+    laid-none (chosen-wide (a .batch) (a .puts) (a .count) (a .changes .now) (a .total) (a .chosen .now)) (rw long (c .shown .ensures))
 
 add-wide : tie.Need-add-wide Inv-loop μ-loop
 add-wide c = omega (arith, within c, start-of (c .before .before) .pre .2)
@@ -83,7 +84,8 @@ loop-again c =
     let t = turn-of i in
     let s = start-of (t .before .before) in
     let a = s .args in
-    let is = chosen-at (a .batch) (a .puts) (a .count) (a .changes .now) (a .total) (a .chosen .now) (s .pre .3) (a .start + t .before .loop .i) (i .wide .ensures) (within t) (f .frame-at .ensures) in
+    let n = a .start + t .before .loop .i in
+    let is = chosen-at (a .batch) (a .puts) (a .count) (a .changes .now) (a .total) (a .chosen .now) (s .pre .3) n (i .wide .ensures) (within t) (f .frame-at .ensures) in
     laid-next (t .before .loop .inv) (w .before .wide2 .result) _ (w .before .wide2 .ensures) (t .loop-test .taken) is (w .write .ensures)
 
 mul-result : tie.Need-mul-result Inv-loop μ-loop
