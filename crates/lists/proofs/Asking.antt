@@ -21,8 +21,8 @@ use Rattle.model.proofs.Requests.{placed-length, request-most}
 use Rattle.requests.specs.declared.runs.Found.{Found}
 use Rattle.requests.specs.declared.runs.Found.the-variants as found
 use Rattle.requests.specs.Runs.{runsFrom, Finds, aloneOf}
-use Rattle.lists.specs.Reports.{refused}
-use Rattle.lists.proofs.Laying.{Laid, Wrote, laid-none, laid-next, laid-all}
+use Rattle.lists.specs.Reports.{refused, Wrote}
+use Rattle.lists.proofs.Laying.{Laid, laid-none, laid-next, laid-all}
 
 -- One line alone is written if it is wanted and has room.
 module _ (f : Frame) (start : ℕ) (o : List ℕ) {k : ℕ} (room : k ≡ min (length o / 35) (1 - start)) where

@@ -5,8 +5,9 @@ use mathlib.Core.List.{List, [], _∷_, _++_, map, append-assoc, append-nil}
 use native.Mathlib.Omega.{arith}
 use lib.ListN.{length, getD, take, drop, length-append, length-drop}
 use lib.Seq.{take-at, drop-append-add, drop-drop, getD-drop}
-use Rattle.model.specs.Lists.{laid, part, over}
+use Rattle.model.specs.Lists.{laid, part}
 use Rattle.model.proofs.Cutting.{take-min, Wide, wide-drop, laid-long}
+use Rattle.lists.specs.Reports.{Wrote}
 
 -- map, take and drop change places
 module _ {A B : Type 0} (f : A → B) where
@@ -33,10 +34,6 @@ pub record Laid (ps : List (List ℕ)) (start k : ℕ) (o out : List ℕ) (i : �
   pub room : k ≡ min (length o / 35) (length ps - start)
   pub most : i ≤ k
   pub is : out ≡ laid (take i (drop start ps)) ++ drop (35 * i) o
-
--- n bytes of the pieces from `start` on are written to o, which is `after` then
-abbrev pub Wrote : (ps : List (List ℕ)) (start : ℕ) (o : List ℕ) (n : ℕ) (after : List ℕ) → Type 0
-Wrote ps start o n after = (n ≡ length (part 35 start (length o) ps)) × (after ≡ over (part 35 start (length o) ps) o)
 
 pub laid-none : {ps : List (List ℕ)} {start k : ℕ} {o : List ℕ} → Wide 35 ps → k ≡ min (length o / 35) (length ps - start) → Laid ps start k o o 0
 unfolding laid

@@ -20,9 +20,8 @@ use Rattle.requests.specs.Reading.{holds, counting, choice, Chooses}
 use Rattle.table.proofs.Admitting.{Admission, two-known}
 use Rattle.lists.specs.declared.changes.Collected.{Collected}
 use Rattle.lists.specs.declared.changes.Collected.the-variants.{Changes, TooDeep}
-use Rattle.lists.specs.Reports.{refused}
+use Rattle.lists.specs.Reports.{refused, Wrote}
 use Rattle.lists.specs.Changes.{atLeastOne, chosenIn}
-use Rattle.lists.proofs.Laying.{Wrote}
 use Rattle.lists.proofs.Sending.{Gathered, held, too-deep}
 use Rattle.lists.proofs.Choosing.{chosen-many, choice-few, choice-below, chosen-wanted}
 

@@ -14,7 +14,7 @@ use Rattle.model.specs.Lists.{Report, Lists, framed, part, over}
 use Rattle.table.proofs.Admitting.{Admission, two-known}
 use Rattle.lists.specs.declared.changes.Collected.{Collected}
 use Rattle.lists.specs.declared.changes.Collected.the-variants.{Changes, TooDeep}
-use Rattle.lists.specs.Reports.{refused}
+use Rattle.lists.specs.Reports.{refused, Wrote}
 use Rattle.lists.specs.Changes.{Collects, atLeastOne, linesIn}
 use Rattle.lists.proofs.Reporting.{Begun, lists-deep, lists-done}
 use Rattle.lists.proofs.Framing.{lines-long}
@@ -46,11 +46,11 @@ module _ {b ws : List ℕ} {a c : ℕ} {q : Collected} (G : Gathered b a c ws q)
   pub gathered-few : {p n : ℕ} → q ≡ Changes p n → n ≤ 4096
   gathered-few e = held e .2
 
-  pub gathered-done : {out after : List ℕ} (start batch p n w : ℕ) → q ≡ Changes p n → w ≡ length (part 35 start (length out) (linesIn batch p n ws))
-      → after ≡ over (part 35 start (length out) (linesIn batch p n ws)) out → (r : Report) → r ≡ record { number = 0; written = w; total = atLeastOne n } → Lists b out after start (framed b a c batch) r
+  pub gathered-done : {out after : List ℕ} (start batch p n w : ℕ) → q ≡ Changes p n → Wrote (linesIn batch p n ws) start out w after
+      → (r : Report) → r ≡ record { number = 0; written = w; total = atLeastOne n } → Lists b out after start (framed b a c batch) r
   unfolding linesIn
-  gathered-done {out} {after} start batch p n w e f g r h =
+  gathered-done {out} {after} start batch p n w e d r h =
       let L : linesIn batch p n ws ≡ map line (frames batch A C) = ap (λ cs. map line (framesOf batch cs)) (held e .1) in
       let t : atLeastOne n ≡ length (map line (frames batch A C)) = sym (lines-long batch p ws n) ∙ ap length L in
-      let u : w ≡ length (part 35 start (length out) (map line (frames batch A C))) = f ∙ ap (λ ls. length (part 35 start (length out) ls)) L in
-      lists-done start (framed b a c batch) (begun batch) r (held e .0) (h ∙ cc) (g ∙ ap (λ ls. over (part 35 start (length out) ls) out) L)
+      let u : w ≡ length (part 35 start (length out) (map line (frames batch A C))) = d .0 ∙ ap (λ ls. length (part 35 start (length out) ls)) L in
+      lists-done start (framed b a c batch) (begun batch) r (held e .0) (h ∙ cc) (d .1 ∙ ap (λ ls. over (part 35 start (length out) ls) out) L)

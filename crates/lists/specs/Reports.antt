@@ -7,7 +7,7 @@ use lib.ListN.{length}
 use Rattle.model.specs.Block.{Shaped, SoundBlock}
 use Rattle.model.specs.Numbers.{SHAPE, DAMAGED, VERSION, TOO_DEEP}
 use Rattle.model.specs.Calls.{Check, Versions}
-use Rattle.model.specs.Lists.{Pieces, part}
+use Rattle.model.specs.Lists.{Pieces, part, over}
 use Rattle.model.specs.Lists as lists
 use Rattle.lists.specs.declared.reports.Report.{Report}
 
@@ -17,6 +17,10 @@ reportOf r = record { number = r .number; written = r .written; total = r .total
 -- a refusal returns its number and zeros
 abbrev pub refused : ℕ → lists.Report
 refused n = record { number = n; written = 0; total = 0 }
+
+-- n bytes of the lines from `start` on are written to out, which is `after` then
+abbrev pub Wrote : (lines : List (List ℕ)) (start : ℕ) (out : List ℕ) (n : ℕ) (after : List ℕ) → Type 0
+Wrote lines start out n after = (n ≡ length (part 35 start (length out) lines)) × (after ≡ over (part 35 start (length out) lines) out)
 
 -- a refusal's number, a total of 0 and an empty part
 abbrev pub Empty : (shown : List ℕ) (number total n : ℕ) → Type 0

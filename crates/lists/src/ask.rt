@@ -15,16 +15,14 @@ ghost use mathlib.Core.List.{[], _∷_, map};
 ghost use lib.ListN.{length};
 ghost use Rattle.model.specs.Frame.{line};
 ghost use Rattle.model.specs.Inbox.{batchOf, SoundInbox};
-ghost use Rattle.model.specs.Lists.{part, over};
 ghost use Rattle.model.specs.Request.{placed, Ask};
 ghost use Rattle.frame.specs.Fields.{fieldsOf};
 ghost use Rattle.requests.specs.Runs.{runsFrom};
-ghost use Rattle.lists.specs.Reports.{reportOf};
+ghost use Rattle.lists.specs.Reports.{reportOf, Wrote};
 
 // The only line, if start is 0 and 35 bytes remain: how many bytes are written.
 fn write_one(f: Frame, start: u32, out: &mut [u8]) -> u32
-    ensures { λ r. ⌜ r ≡ length (part 35 start (length (now (out .entry))) (line (fieldsOf f) ∷ [])) ⌝ }
-    ensures { λ r. ⌜ now (out .exit) ≡ over (part 35 start (length (now (out .entry))) (line (fieldsOf f) ∷ [])) (now (out .entry)) ⌝ }
+    ensures { λ r. ⌜ Wrote (line (fieldsOf f) ∷ []) start (now (out .entry)) r (now (out .exit)) ⌝ }
 {
     let k = shown(1, start, out.len() / 35);
     if k == 0 {
@@ -37,8 +35,7 @@ fn write_one(f: Frame, start: u32, out: &mut [u8]) -> u32
 // The lines of `count` runs from index start on, while 35 bytes remain: how many bytes are written.
 fn write_runs(x: &[u32], count: u32, start: u32, out: &mut [u8]) -> u32
     requires { ⌜ SoundInbox (now x) × (count ≡ length (runsFrom (now x) 0)) ⌝ }
-    ensures { λ r. ⌜ r ≡ length (part 35 start (length (now (out .entry))) (map line (placed (batchOf (now (x .entry))) count 0 (runsFrom (now (x .entry)) 0)))) ⌝ }
-    ensures { λ r. ⌜ now (out .exit) ≡ over (part 35 start (length (now (out .entry))) (map line (placed (batchOf (now (x .entry))) count 0 (runsFrom (now (x .entry)) 0)))) (now (out .entry)) ⌝ }
+    ensures { λ r. ⌜ Wrote (map line (placed (batchOf (now (x .entry))) count 0 (runsFrom (now (x .entry)) 0))) start (now (out .entry)) r (now (out .exit)) ⌝ }
 {
     let k = shown(count, start, out.len() / 35);
     if k == 0 {

@@ -8,11 +8,10 @@ use crate::reports::refusal;
 use crate::reports::shown;
 use crate::reports::wide;
 use table::checks::admit;
-ghost use mathlib.Core.Path.{_≡_};
 ghost use Prim.Native.Nat.{_*_, _≤_};
 ghost use lib.ListN.{length};
-ghost use Rattle.model.specs.Lists.{Lists, part, over, framed};
-ghost use Rattle.lists.specs.Reports.{reportOf};
+ghost use Rattle.model.specs.Lists.{Lists, framed};
+ghost use Rattle.lists.specs.Reports.{reportOf, Wrote};
 ghost use Rattle.lists.specs.Changes.{linesIn};
 
 const TOO_DEEP: u32 = 6;
@@ -27,8 +26,7 @@ fn write_lines(
     out: &mut [u8],
 ) -> u32
     requires { ⌜ (2 * count ≤ length (now changes)) × (count ≤ 4096) ⌝ }
-    ensures { λ r. ⌜ r ≡ length (part 35 start (length (now (out .entry))) (linesIn batch puts count (now (changes .entry)))) ⌝ }
-    ensures { λ r. ⌜ now (out .exit) ≡ over (part 35 start (length (now (out .entry))) (linesIn batch puts count (now (changes .entry)))) (now (out .entry)) ⌝ }
+    ensures { λ r. ⌜ Wrote (linesIn batch puts count (now (changes .entry))) start (now (out .entry)) r (now (out .exit)) ⌝ }
 {
     let k = shown(at_least_one(count), start, out.len() / 35);
     let mut i = 0u32;

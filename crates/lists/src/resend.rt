@@ -11,12 +11,10 @@ use requests::reading::choose;
 use requests::reading::of_batch;
 use requests::reading::well_formed;
 use table::checks::admit;
-ghost use mathlib.Core.Path.{_≡_};
 ghost use Prim.Native.Nat.{ℕ, _*_, _<_, _≤_};
 ghost use lib.ListN.{length, getD};
-ghost use Rattle.model.specs.Lists.{part, over};
 ghost use Rattle.model.specs.Request.{Resend};
-ghost use Rattle.lists.specs.Reports.{reportOf};
+ghost use Rattle.lists.specs.Reports.{reportOf, Wrote};
 ghost use Rattle.lists.specs.Changes.{atLeastOne, chosenIn};
 
 const TOO_DEEP: u32 = 6;
@@ -37,8 +35,7 @@ fn write_chosen(
     out: &mut [u8],
 ) -> u32
     requires { ⌜ (2 * count ≤ length (now changes)) × (count ≤ 4096) × (total ≤ 4096) × (total ≤ length (now chosen)) × ((i : ℕ) → i < total → getD (now chosen) i 0 < atLeastOne count) ⌝ }
-    ensures { λ r. ⌜ r ≡ length (part 35 start (length (now (out .entry))) (chosenIn batch puts count (now (changes .entry)) total (now (chosen .entry)))) ⌝ }
-    ensures { λ r. ⌜ now (out .exit) ≡ over (part 35 start (length (now (out .entry))) (chosenIn batch puts count (now (changes .entry)) total (now (chosen .entry)))) (now (out .entry)) ⌝ }
+    ensures { λ r. ⌜ Wrote (chosenIn batch puts count (now (changes .entry)) total (now (chosen .entry))) start (now (out .entry)) r (now (out .exit)) ⌝ }
 {
     let k = shown(total, start, out.len() / 35);
     let mut i = 0u32;

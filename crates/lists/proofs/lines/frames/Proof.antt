@@ -74,7 +74,7 @@ returns-3 c =
     let w = c .before .before .before in
     let g = w .before .before .before .before .before .before .before in
     let s = start-of (else-of g) .args in
-    gathered-done (gathered g) (s .start) (s .batch) _ _ _ (w .before .before .before .before .puts .given .1) (w .write-lines .ensures .0) (w .write-lines .ensures .1) _ (ap (λ t. record { number = 0; written = w .write-lines .result; total = t }) (c .at-least-one .ensures))
+    gathered-done (gathered g) (s .start) (s .batch) _ _ _ (w .before .before .before .before .puts .given .1) (w .write-lines .ensures) _ (ap (λ t. record { number = 0; written = w .write-lines .result; total = t }) (c .at-least-one .ensures))
 
 pub frames-spec : {M : Type 1} → statement M
 frames-spec =
