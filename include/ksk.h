@@ -132,7 +132,8 @@ uint32_t ksk_missing(const uint32_t *inbox, size_t words, uint32_t *missing);
 uint32_t ksk_ask(const uint32_t *inbox, size_t words, uint32_t start, uint8_t *out, size_t out_bytes, uint32_t *written, uint32_t *total);
 
 /* What the primary sends again: of the lines that carry version from to version to under a batch number those that a request asks for, from index start on while 35 bytes remain.
- * A request is all its lines one after another. An index past the last line is passed over. written counts bytes; total is how many lines are asked for, 0 for complete. */
+ * A request is all its lines one after another. An index past the last line is passed over. written counts bytes; total is how many of these lines are asked for, 0 for complete.
+ * The request's form is checked before its batch, and both walks are made whatever is asked: KSK_TOO_DEEP is the versions' alone. */
 uint32_t ksk_resend(const uint32_t *block, size_t words, uint32_t from, uint32_t to, uint32_t batch, const uint8_t *request, size_t request_bytes, uint32_t start, uint8_t *out, size_t out_bytes, uint32_t *written, uint32_t *total);
 
 /* The ledger: accounts above one version, in which open calls stand under their numbers. A call number's top eight bits are its account. Only these calls may edit that version.
