@@ -1,5 +1,1 @@
-pub mod Feeding
-pub mod Hearing
-pub mod Keeping
-pub mod Sounding
 pub mod Texts

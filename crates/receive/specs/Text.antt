@@ -8,7 +8,7 @@ use Rattle.model.specs.Block.{heap}
 use Rattle.model.specs.Frame.{digits}
 use Rattle.model.specs.Inbox.{begun, question}
 use Rattle.model.specs.Calls.{freshBlock}
-use Rattle.receive.specs.Lines.{HearsSome}
+use Rattle.hearing.specs.Lines.{HearsSome}
 
 -- an entry: key then value, 16 digits and a newline
 unfoldable pub entryLine : Entry → List ℕ

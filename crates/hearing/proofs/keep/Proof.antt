@@ -1,9 +1,9 @@
 -- A byte is put behind those kept, or dropped where 36 are kept.
 use borrow.Author.Needs.{needs}
 use native.Mathlib.Omega.{arith}
-use Rattle.receive.proofs.Keeping.{keeps-more, keeps-full}
-use Rattle.receive.proofs.keep.Statement.{statement}
-use Rattle.receive.proofs.keep.Tie as tie
+use Rattle.hearing.proofs.Keeping.{keeps-more, keeps-full}
+use Rattle.hearing.proofs.keep.Statement.{statement}
+use Rattle.hearing.proofs.keep.Tie as tie
 
 element-write-line : tie.Need-element-write-line
 element-write-line c = search needs

@@ -12,7 +12,7 @@ use Rattle.model.specs.Link.{Parse, Begin, Heard, Receive}
 use Rattle.model.specs.Replica.{Nothing, Hearing, still, then}
 use Rattle.model.proofs.Lines.{fault-range, good-parse}
 use Rattle.model.proofs.Refusals.{begin-begins}
-use Rattle.receive.specs.Lines.{Runs, idle, waits, begins, hears}
+use Rattle.hearing.specs.Lines.{Runs, idle, waits, begins, hears}
 
 -- no line
 pub runs-none : (b x : List ℕ) (g : Bool) → Runs b x g [] b x g

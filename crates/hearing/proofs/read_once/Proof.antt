@@ -1,8 +1,8 @@
 -- The bytes fed are those read.
 use borrow.Author.Needs.{needs}
-use Rattle.receive.proofs.Feeding.{fed-none}
-use Rattle.receive.proofs.read_once.Statement.{statement}
-use Rattle.receive.proofs.read_once.Tie as tie
+use Rattle.hearing.proofs.Feeding.{fed-none}
+use Rattle.hearing.proofs.read_once.Statement.{statement}
+use Rattle.hearing.proofs.read_once.Tie as tie
 
 large-buffer-requires : tie.Need-large-buffer-requires
 large-buffer-requires c κs = search needs

@@ -2,9 +2,9 @@
 use borrow.Author.Needs.{needs}
 use Rattle.frame.specs.Fields.{fieldsOf}
 use Rattle.link.specs.Answers.{heardOf}
-use Rattle.receive.proofs.Hearing.{runs-hears, runs-waits, runs-begins}
-use Rattle.receive.proofs.hear.Statement.{statement}
-use Rattle.receive.proofs.hear.Tie as tie
+use Rattle.hearing.proofs.Hearing.{runs-hears, runs-waits, runs-begins}
+use Rattle.hearing.proofs.hear.Statement.{statement}
+use Rattle.hearing.proofs.hear.Tie as tie
 
 receive-requires : tie.Need-receive-requires
 receive-requires c κs = search needs

@@ -14,7 +14,7 @@ use Rattle.model.specs.Replica.{Nothing, Hearing, still, then}
 use Rattle.model.proofs.Heard.{begun-sound, marked-sound}
 use Rattle.model.proofs.Receiving.{Outcome, away, again, new, receive-outcome, line-markable}
 use Rattle.audit.proofs.FreshBlock.{fresh-sound}
-use Rattle.receive.specs.Lines.{Runs, idle, waits, begins, hears, HearsSome}
+use Rattle.hearing.specs.Lines.{Runs, idle, waits, begins, hears, HearsSome}
 
 pub record Well (b x : List ℕ) : Type 0 where
   pub block : SoundBlock b

@@ -3,9 +3,9 @@ use borrow.Author.Needs.{needs}
 use mathlib.Core.Path.{_∙_}
 use Prim.Native.Nat.{_-_}
 use lib.ListN.{length}
-use Rattle.receive.proofs.Feeding.{Feeding, feeding-none, feeding-byte, feeding-line, feeding-all}
-use Rattle.receive.proofs.feed.Statement.{statement}
-use Rattle.receive.proofs.feed.Tie as tie
+use Rattle.hearing.proofs.Feeding.{Feeding, feeding-none, feeding-byte, feeding-line, feeding-all}
+use Rattle.hearing.proofs.feed.Statement.{statement}
+use Rattle.hearing.proofs.feed.Tie as tie
 
 abbrev Inv-loop : tie.InvT-loop
 Inv-loop b₀ x₀ line₀ bytes len₀ begun₀ i₀ b x line len begun i = Feeding (record { block = b₀; inbox = x₀; started = begun₀; line = line₀; len = len₀ }) bytes (record { block = b; inbox = x; started = begun; line = line; len = len }) i

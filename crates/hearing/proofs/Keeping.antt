@@ -9,7 +9,7 @@ use native.Mathlib.Decide.{decLe}
 use Rattle.model.specs.Frame.{fault, read}
 use Rattle.model.specs.Numbers.{FRAME}
 use Rattle.model.proofs.Lines.{read-open}
-use Rattle.receive.specs.Lines.{Keeps}
+use Rattle.hearing.specs.Lines.{Keeps}
 
 -- one of any other length than 35 says nothing
 says-nothing : (l : List ℕ) → (length l ≡ 35 → ⊥) → read l ≡ fault FRAME 0

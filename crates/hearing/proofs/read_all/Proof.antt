@@ -4,10 +4,10 @@ use mathlib.Core.Path.{_≡_, refl}
 use mathlib.Core.Bool.{false}
 use Prim.Native.Nat.{_≤_}
 use lib.ListN.{length}
-use Rattle.receive.specs.Lines.{state, FedSome}
-use Rattle.receive.proofs.Feeding.{fed-none, fed-then, fed-all}
-use Rattle.receive.proofs.read_all.Statement.{statement}
-use Rattle.receive.proofs.read_all.Tie as tie
+use Rattle.hearing.specs.Lines.{state, FedSome}
+use Rattle.hearing.proofs.Feeding.{fed-none, fed-then, fed-all}
+use Rattle.hearing.proofs.read_all.Statement.{statement}
+use Rattle.hearing.proofs.read_all.Tie as tie
 
 abbrev Inv-loop : tie.InvT-loop
 Inv-loop b₀ x₀ line₀ progress₀ turns₀ b x line progress turns = (progress .len ≤ 36) × (length b ≡ length b₀) × (length x ≡ length x₀) × FedSome (record { block = b₀; inbox = x₀; started = false; line = line₀; len = 0 }) (state b x line progress)

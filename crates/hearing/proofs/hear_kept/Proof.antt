@@ -1,8 +1,8 @@
 -- The part of the buffer that is in use.
 use native.Mathlib.Numerals.{unary-clauses}
 use borrow.Author.Needs.{needs}
-use Rattle.receive.proofs.hear_kept.Statement.{statement}
-use Rattle.receive.proofs.hear_kept.Tie as tie
+use Rattle.hearing.proofs.hear_kept.Statement.{statement}
+use Rattle.hearing.proofs.hear_kept.Tie as tie
 
 sub-hear : tie.Need-sub-hear
 sub-hear c = search needs

@@ -10,9 +10,9 @@ use borrow.Author.Tests.{eq-eqb, ne-eqb}
 use lib.Dec.{eqb}
 use native.Mathlib.Omega.{arith}
 use Rattle.model.specs.Frame.{read}
-use Rattle.receive.specs.Lines.{linesOf, restOf, Keeps, State, Fed, FedSome, HearsSome, Runs}
-use Rattle.receive.proofs.Keeping.{first-36, keeps-none}
-use Rattle.receive.proofs.Hearing.{runs-none, runs-then, runs-says}
+use Rattle.hearing.specs.Lines.{linesOf, restOf, Keeps, State, Fed, FedSome, HearsSome, Runs}
+use Rattle.hearing.proofs.Keeping.{first-36, keeps-none}
+use Rattle.hearing.proofs.Hearing.{runs-none, runs-then, runs-says}
 
 -- lines heard from one state to another
 abbrev pub RunsTo : State → List (List ℕ) → State → Type 0

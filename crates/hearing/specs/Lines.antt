@@ -1,4 +1,4 @@
--- Bytes cut into lines, and what the receiving program does with the lines.
+-- Bytes cut into lines, and what the standby's programs do with the lines.
 use mathlib.Core.Path.{_≡_}
 use Prim.Native.Nat.{ℕ, min}
 use mathlib.Core.Bool.{Bool, true, false}
@@ -9,7 +9,7 @@ use lib.Dec.{eqb}
 use Rattle.model.specs.Frame.{Frame, parse}
 use Rattle.model.specs.Inbox.{begun}
 use Rattle.model.specs.Replica.{Nothing, Hearing}
-use Rattle.receive.specs.declared.Progress.{Progress}
+use Rattle.hearing.specs.declared.Progress.{Progress}
 
 -- the lines that end in `bytes`, where `held` came before: a line ends at its newline (10)
 unfoldable pub linesOf : (held bytes : List ℕ) → List (List ℕ)

@@ -1,0 +1,4 @@
+pub mod Feeding
+pub mod Hearing
+pub mod Keeping
+pub mod Sounding
