@@ -1,4 +1,4 @@
-/* A host in C: the primary drops a call, its lines reach the standby, and both sites hold the same minutes. Then the same with accounts: a ledger over a version of the primary. */
+/* A host in C: the primary drops a call, its lines reach the standby, which asks for those that were lost, and both sites hold the same minutes. Then the same with accounts: a ledger over a version of the primary. */
 #include <stdio.h>
 #include <stdlib.h>
 
@@ -26,18 +26,32 @@ static void reserve(uint32_t *block, uint32_t version, uint32_t call, uint32_t m
     expect_done("ksk_insert", ksk_insert(block, KSK_BLOCK_WORDS(N), version, version, call, minutes, &had, &old));
 }
 
-/* Sends the change of the primary from one version to another into the same version of the standby; every second line is lost at first and sent again. */
+/* Hands lines to the standby over a link that loses two of each three. Returns how many are missing then. */
+static uint32_t hear(uint32_t version, const uint8_t *lines, uint32_t total)
+{
+    uint32_t again, place, missing = KSK_UNKNOWN;
+    for (uint32_t i = 0; i < total; i += 3)
+        expect_done("ksk_receive", ksk_receive(standby, KSK_BLOCK_WORDS(N), inbox, KSK_INBOX_WORDS, version, lines + i * KSK_LINE_BYTES, KSK_LINE_BYTES, &again, &missing, &place));
+    return missing;
+}
+
+/* Sends the change of the primary from one version to another into a version of the standby. The standby asks for what it misses, and the primary sends that again, until it says that it is complete. */
 static void send(uint32_t from, uint32_t to, uint32_t batch, uint32_t version)
 {
-    uint8_t lines[LINES * KSK_LINE_BYTES];
-    uint32_t written, total, again, place, missing = KSK_UNKNOWN;
+    uint8_t lines[LINES * KSK_LINE_BYTES], request[LINES * KSK_LINE_BYTES];
+    uint32_t written, asked, total;
 
     expect_done("ksk_frames", ksk_frames(primary, KSK_BLOCK_WORDS(N), from, to, batch, 0, lines, sizeof lines, &written, &total));
     expect_done("ksk_begin", ksk_begin(inbox, KSK_INBOX_WORDS, batch));
-    for (uint32_t round = 0; round < 2; round++)
-        for (uint32_t i = round; i < total; i += 2)
-            expect_done("ksk_receive", ksk_receive(standby, KSK_BLOCK_WORDS(N), inbox, KSK_INBOX_WORDS, version, lines + i * KSK_LINE_BYTES, KSK_LINE_BYTES, &again, &missing, &place));
-    printf("lines sent: %u, missing: %u\n", total, missing);
+    printf("lines sent: %u, missing: %u\n", total, hear(version, lines, total));
+    for (;;) {
+        expect_done("ksk_ask", ksk_ask(inbox, KSK_INBOX_WORDS, 0, request, sizeof request, &asked, &total));
+        printf("asked:\n%.*s", (int)asked, (const char *)request);
+        expect_done("ksk_resend", ksk_resend(primary, KSK_BLOCK_WORDS(N), from, to, batch, request, asked, 0, lines, sizeof lines, &written, &total));
+        if (total == 0)
+            return;
+        printf("lines sent again: %u, missing: %u\n", total, hear(version, lines, total));
+    }
 }
 
 /* Two lines that are damaged on the way: one in a digit, which the standby is sent, one in its kind, which is only read. */
@@ -65,12 +79,13 @@ static void print(const uint32_t *block, uint32_t version)
         printf("call %u holds %u minutes\n", entries[i], entries[i + 1]);
 }
 
-/* The switch flushes what has gathered in one call: call 1 drops, calls 5 and 6 come in. */
+/* The switch flushes what has gathered in one call: call 1 drops, calls 5 and 6 come in. Version 0 stays what the standby holds by now. */
 static void flush(void)
 {
     static const uint32_t edits[] = { KSK_REMOVE, 1, 0, KSK_PUT, 5, 50, KSK_PUT, 6, 60 };
     uint32_t size;
     uint64_t minutes;
+    expect_done("ksk_copy", ksk_copy(primary, KSK_BLOCK_WORDS(N), 0, 1));
     expect_done("ksk_batch", ksk_batch(primary, KSK_BLOCK_WORDS(N), 1, 1, edits, 3 * KSK_RECORD_WORDS));
     expect_done("ksk_size", ksk_size(primary, KSK_BLOCK_WORDS(N), 1, &size));
     expect_done("ksk_held", ksk_held(primary, KSK_BLOCK_WORDS(N), 1, &minutes));
@@ -133,12 +148,12 @@ static void accounts(void)
     open_call(CALL(1u, 6u), 40);
     refuse_zero(CALL(1u, 7u));
     print_account(1);
-    bring_up_to_date(8);
+    bring_up_to_date(9);
     print(standby, OPEN_CALLS);
     expect_done("ksk_ledger_release", ksk_ledger_release(ledger, KSK_LEDGER_WORDS(ACCOUNTS), primary, KSK_BLOCK_WORDS(N), OPEN_CALLS, CALL(1u, 5u), &table));
     printf("call %u dropped\n", CALL(1u, 5u));
     print_account(1);
-    bring_up_to_date(9);
+    bring_up_to_date(10);
     print(standby, OPEN_CALLS);
     expect_done("ksk_ledger_settle", ksk_ledger_settle(ledger, KSK_LEDGER_WORDS(ACCOUNTS), primary, KSK_BLOCK_WORDS(N), OPEN_CALLS, CALL(1u, 6u), 12, &table));
     print_account(1);
@@ -162,6 +177,8 @@ int main(void)
     print(standby, 0);
     damage();
     flush();
+    send(0, 1, 8, 0);
+    print(standby, 0);
     accounts();
     return 0;
 }

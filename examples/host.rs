@@ -1,4 +1,4 @@
-//! A host in Rust: the primary drops a call, its lines reach the standby, and both sites hold the same minutes. Then the same with accounts: a ledger over a version of the primary.
+//! A host in Rust: the primary drops a call, its lines reach the standby, which asks for those that were lost, and both sites hold the same minutes. Then the same with accounts: a ledger over a version of the primary.
 
 mod ksk;
 
@@ -27,19 +27,34 @@ fn main() -> Result<(), Box<dyn Error>> {
     print(&standby, 0)?;
     damage(&primary, &mut standby)?;
     flush(&mut primary)?;
+    send(&primary, 0, 1, 8, &mut standby, 0)?;
+    print(&standby, 0)?;
     accounts(&mut primary, &mut standby)?;
     Ok(())
 }
 
-/// Sends the change from one version to another into a version of the standby; every second line is lost at first and sent again.
+/// Sends the change from one version to another into a version of the standby. The standby asks for what it misses, and the primary sends that again, until it says that it is complete.
 fn send(primary: &Block, from: u32, to: u32, batch: u32, standby: &mut Block, version: u32) -> Result<(), Refusal> {
-    let lines = primary.frames(from, to, batch)?;
     let mut inbox = Inbox::begin(batch);
-    for line in lines.iter().step_by(2).chain(lines.iter().skip(1).step_by(2)) {
-        standby.receive(&mut inbox, version, line)?;
+    let mut lines = primary.frames(from, to, batch)?;
+    println!("lines sent: {}, missing: {}", lines.len(), hear(standby, &mut inbox, version, &lines)?);
+    loop {
+        let request = inbox.ask()?;
+        print!("asked:\n{}", String::from_utf8_lossy(&request.concat()));
+        lines = primary.resend(from, to, batch, &request)?;
+        if lines.is_empty() {
+            return Ok(());
+        }
+        println!("lines sent again: {}, missing: {}", lines.len(), hear(standby, &mut inbox, version, &lines)?);
     }
-    println!("lines sent: {}, missing: {}", lines.len(), inbox.missing()?.unwrap_or(u32::MAX));
-    Ok(())
+}
+
+/// Hands lines to the standby over a link that loses two of each three. Returns how many are missing then.
+fn hear(standby: &mut Block, inbox: &mut Inbox, version: u32, lines: &[[u8; 35]]) -> Result<u32, Refusal> {
+    for line in lines.iter().step_by(3) {
+        standby.receive(inbox, version, line)?;
+    }
+    Ok(inbox.missing()?.unwrap_or(u32::MAX))
 }
 
 /// Two lines that are damaged on the way: one in a digit, which the standby is sent, one in its kind, which is only read.
@@ -57,8 +72,9 @@ fn damage(primary: &Block, standby: &mut Block) -> Result<(), Refusal> {
     Ok(())
 }
 
-/// The switch flushes what has gathered in one call: call 1 drops, calls 5 and 6 come in.
+/// The switch flushes what has gathered in one call: call 1 drops, calls 5 and 6 come in. Version 0 stays what the standby holds by now.
 fn flush(primary: &mut Block) -> Result<(), Refusal> {
+    primary.copy(0, 1)?;
     primary.batch(1, 1, &[Edit::Remove { key: 1 }, Edit::Put { key: 5, value: 50 }, Edit::Put { key: 6, value: 60 }])?;
     println!("flushed: {} calls hold {} minutes", primary.size(1)?, primary.held(1)?);
     Ok(())
@@ -82,12 +98,12 @@ fn accounts(primary: &mut Block, standby: &mut Block) -> Result<(), Box<dyn Erro
     assert_eq!(ledger.reserve(primary, OPEN_CALLS, call(7), 0), Err(Declined::Edit(Refusal::Zero)));
     println!("call {} refused: 0 minutes", call(7));
     print_account(&ledger, primary, 1)?;
-    bring_up_to_date(primary, 8, standby)?;
+    bring_up_to_date(primary, 9, standby)?;
     print(standby, OPEN_CALLS)?;
     ledger.release(primary, OPEN_CALLS, call(5))?;
     println!("call {} dropped", call(5));
     print_account(&ledger, primary, 1)?;
-    bring_up_to_date(primary, 9, standby)?;
+    bring_up_to_date(primary, 10, standby)?;
     print(standby, OPEN_CALLS)?;
     ledger.settle(primary, OPEN_CALLS, call(6), 12)?;
     print_account(&ledger, primary, 1)?;
