@@ -9,6 +9,6 @@ use Rattle.model.specs.Lists.{laid}
 use Rattle.model.specs.Request.{requestOf}
 use Rattle.hearing.specs.Lines.{HearsSome}
 
--- from a fresh block and an inbox that has heard nothing, the lines of some bytes are heard one after the other; this is the request of the inbox that is then held, line by line
+-- from a fresh block and an inbox that has heard nothing, the lines of some bytes are heard one after the other; this is what is then asked, line by line
 abbrev pub Asks : List ℕ → Type 0
 Asks text = (b : List ℕ) × (x : List ℕ) × HearsSome (freshBlock 2016) (begun 0) b x × (text ≡ laid (map line (requestOf x)))

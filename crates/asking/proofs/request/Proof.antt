@@ -30,7 +30,8 @@ returns c =
     let a = c .before .before .before in
     let h = a .before .before .before .before .before .before .before in
     let start = h .before .before .before .before .before .before in
-    let w = whole-request _ (start .args .out .now) _ (reportOf (a .ask .result)) (well-heard (h .hear-input .ensures) .inbox) (start .pre .2) (omega arith) (a .ask .ensures) in
+    let sound = well-heard (h .hear-input .ensures) .inbox in
+    let w = whole-request _ (start .args .out .now) _ (reportOf (a .ask .result)) sound (start .pre .2) (omega arith) (a .ask .ensures) in
     (w .0, (_, _, h .hear-input .ensures, w .1))
 
 pub request-spec : {M : Type 1} → statement M

@@ -8,7 +8,9 @@ hear-input-requires : tie.Need-hear-input-requires
 hear-input-requires c κs = search needs
 
 write-text-requires : tie.Need-write-text-requires
-write-text-requires c κs = let w = well-heard (c .before .before .before .before .before .before .before .hear-input .ensures) in (w .block, w .room-is, w .inbox, search needs)
+write-text-requires c κs =
+    let w = well-heard (c .before .before .before .before .before .before .before .hear-input .ensures) in
+    (w .block, w .room-is, w .inbox, search needs)
 
 same-length : tie.Need-same-length
 same-length c = search needs
