@@ -5,7 +5,7 @@ use std::collections::BTreeSet;
 #[derive(Default)]
 pub struct Met(BTreeSet<&'static str>);
 
-const ALL: [&str; 69] = [
+const ALL: [&str; 70] = [
     "ask: complete",
     "ask: count unknown",
     "ask: one index alone",
@@ -62,6 +62,7 @@ const ALL: [&str; 69] = [
     "resend: 2",
     "resend: 3",
     "resend: 6",
+    "resend: 6 where nothing is asked",
     "11: kind 10",
     "11: kind 11",
     "11: kind 12",

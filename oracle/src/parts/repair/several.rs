@@ -10,7 +10,7 @@ use crate::parts::uneven::{self, Lean};
 use crate::parts::{checks, damage, Compared};
 use crate::plain;
 use crate::random::Random;
-use crate::request::{placed, span, text};
+use crate::request::{complete, placed, span, text};
 use crate::rules::Supply;
 use crate::table::Table;
 use std::cell::RefCell;
@@ -33,8 +33,12 @@ const CHECKS: [(Check, u32); 7] = [(Shape, 1), (Sound, 2), (From, 3), (To, 3), (
 
 type Fails = BTreeSet<Check>;
 
-/// A request that asks index 0 and some more; broken and of another batch as is to be.
+/// A request that asks index 0 and some more, or that says complete; broken and of another batch as is to be.
 fn request(random: &mut Random, batch: u32, broken: bool, other: bool) -> Vec<u8> {
+    if !broken && random.once_in(4) {
+        let changed = if other { 1 << random.below(32) } else { 0 };
+        return text(&placed(vec![complete(batch ^ changed)]));
+    }
     let count = random.pick(&[1, 2, 4]);
     let mut lines = apart(random, batch, count);
     lines.insert(0, span(batch, (0, 0)));
@@ -86,11 +90,13 @@ fn case(random: &mut Random, fails: &Fails, met: &mut Met) -> Result<(), String>
     };
     let batch = random.word();
     let request = request(random, batch, fails.contains(&Request), fails.contains(&Batch));
+    let asks_nothing = request == text(&placed(vec![complete(batch)]));
     let call = Call::Resend { from, to, batch, request, start: random.pick(&[0, 0, 1, u32::MAX]), room: LINE * random.below(4) };
     let number = CHECKS.iter().find(|(check, _)| fails.contains(check)).map_or(0, |&(_, number)| number);
     for (refused, name) in [(1, "resend: 1"), (2, "resend: 2"), (3, "resend: 3"), (6, "resend: 6")] {
         met.when(number == refused, name);
     }
+    met.when(number == 6 && asks_nothing, "resend: 6 where nothing is asked");
     let expected = match number {
         0 => plain::answer(&mut table.clone(), &mut [], &call),
         _ => Reply { number, ..call.blank() },
