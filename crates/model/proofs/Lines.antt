@@ -258,8 +258,7 @@ fields-line cs f C e =
     let count = digits-field cs 12 4 (f .count) (omega arith) (r .count) in
     let kind = digits-field cs 16 2 (f .kind) (omega arith) (r .kind) in
     let key = digits-field cs 18 8 (f .key) (omega arith) (r .key) in
-    let value = digits-field cs 26 8 (f .value) (omega arith) (r .value) in
-    (
+    let value = digits-field cs 26 8 (f .value) (omega arith) (r .value) in (
       cut-line cs l (C .newline) ∙ rw (batch .0, index .0, count .0, kind .0, key .0, value .0),
       record { index = index .1; count = count .1; kind = kind .1; wide = record { batch = batch .1; key = key .1; value = value .1 } },
     )

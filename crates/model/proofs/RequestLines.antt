@@ -77,8 +77,7 @@ ascend-fit batch count place least (f ∷ fs) b c p a e =
     let K = right-kinded f (A .kind) in
     let o = both (eqb (f .batch) batch) (allOf batch fs) a in
     let i = both (eqb (f .index) place) (eqb (f .count) count) (A .stands) in
-    let own = eqb-true (f .batch) batch (o .0) in
-    (
+    let own = eqb-true (f .batch) batch (o .0) in (
       record {
         index = omega (arith, eqb-true (f .index) place (i .0));
         count = omega (arith, eqb-true (f .count) count (i .1));
@@ -96,8 +95,7 @@ complete-fit batch (f ∷ []) b a e =
     let k = both (inPlace 1 0 f && eqb (f .kind) 18) (eqb (f .key) 0) (v .0) in
     let d = both (inPlace 1 0 f) (eqb (f .kind) 18) (k .0) in
     let i = both (eqb (f .index) 0) (eqb (f .count) 1) (d .0) in
-    let own = eqb-true (f .batch) batch (both (eqb (f .batch) batch) true a .0) in
-    (
+    let own = eqb-true (f .batch) batch (both (eqb (f .batch) batch) true a .0) in (
       record {
         index = omega (arith, eqb-true (f .index) 0 (i .0));
         count = omega (arith, eqb-true (f .count) 1 (i .1));

@@ -69,8 +69,7 @@ placed-asked batch count place gap least (r ∷ rs) S i =
     let L = run-lined batch count place r (S .1) in
     let A = asks-between f (L .asks) i in
     let IH = placed-asked batch count (suc place) gap (gap + r .last) rs (S .2) i in
-    let O = or-either (asks f i) (asked (placed batch count (suc place) rs) i) in
-    (
+    let O = or-either (asks f i) (asked (placed batch count (suc place) rs) i) in (
       (λ e. ⊎-elim (λ a. let p = A .0 a in inl (omega (arith, p .0, L .key), omega (arith, p .1, L .last))) (λ a. inr (IH .0 a)) (O .0 e)),
       (λ c. O .1 (⊎-elim (λ p. inl (A .1 (omega (arith, p .0, L .key), omega (arith, p .1, L .last)))) (λ p. inr (IH .1 p)) c)),
     )
@@ -158,8 +157,7 @@ ascend-runs count place least (f ∷ fs) e =
     let A = ascend-says count place least f fs e in
     let K = right-kinded f (A .kind) in
     let IH = ascend-runs count (suc place) (suc (lastOf f)) fs (A .rest) in
-    let S : Spaced 1 (1 + lastOf f) (map runOf fs) = spaced-less 1 (suc (lastOf f)) (1 + lastOf f) (map runOf fs) (omega arith) (IH .0) in
-    (
+    let S : Spaced 1 (1 + lastOf f) (map runOf fs) = spaced-less 1 (suc (lastOf f)) (1 + lastOf f) (map runOf fs) (omega arith) (IH .0) in (
       (A .low, K .key, S),
       λ i. (
         (λ q. ⊎-elim (λ a. inl (asks-between f (K .asks) i .0 a)) (λ a. inr (IH .1 i .0 a)) (or-either (asks f i) (asked fs i) .0 q)),

@@ -38,7 +38,7 @@ linesOf fs = record { versions = []; deep = false; width = 35; pieces = map line
 writes-written : (out after : List ℕ) (start : ℕ) (fs : List Frame) (a : Report) → Writes out after start fs a → Written (linesOf fs) out after start a
 writes-written out after start fs a w =
     written (linesOf fs) (wide-map 35 line line-length fs) out after start a
-        (w .0 ∙ ap (λ n. record { number = 0; written = length (part 35 start (length out) (map line fs)); total = n }) (sym (length-map fs line))) (w .1)
+    (w .0 ∙ ap (λ n. record { number = 0; written = length (part 35 start (length out) (map line fs)); total = n }) (sym (length-map fs line))) (w .1)
 
 -- where there is room for all lines the bytes written are all of them
 all-written : (out after : List ℕ) (fs : List Frame) (a : Report) → 35 * length fs ≤ length out → Writes out after 0 fs a → take (a .written) after ≡ laid (map line fs)
