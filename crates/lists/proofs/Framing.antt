@@ -1,5 +1,5 @@
 -- The lines of the changes that words hold are those of the delta, each 35 bytes long.
-use mathlib.Core.Path.{_≡_, refl, ap, sym, _∙_}
+use mathlib.Core.Path.{_≡_, refl, ap, sym, subst, _∙_}
 use mathlib.Core.Logic.{_≢_}
 use Prim.Native.Nat.{ℕ, zero, suc, _+_, _*_, _≤_, _<_}
 use mathlib.Core.Option.{none, some}
@@ -25,9 +25,9 @@ one-few (suc n) h = h
 
 -- the frame of change i, whose words begin at `at`
 module _ (batch puts : ℕ) (ws : List ℕ) (i : ℕ) where
-  pub frame-none : (n : ℕ) → n ≡ 0 → nothing batch ≡ frameIn batch puts n ws i
+  pub frame-none : (n : ℕ) → n ≡ 0 → i < atLeastOne n → record { batch = batch; index = i; count = 1; kind = 0; key = i; value = 0 } ≡ frameIn batch puts n ws i
   unfolding frameIn
-  frame-none n e = rw (e, frameIn)
+  frame-none n e l = let z : i ≡ 0 = omega (arith, subst (λ m. i < atLeastOne m) e l) in rw (z, e, frameIn)
 
   change-put : i < puts → record { key = getD ws (2 * i) 0; now = some (getD ws (2 * i + 1) 0) } ≡ changeIn puts ws i
   unfolding changeIn

@@ -49,13 +49,14 @@ pub fn frame_at(changes: &[u32], puts: u32, count: u32, batch: u32, i: u32) -> F
     requires { ⌜ (2 * count ≤ length (now changes)) × (count ≤ 4096) × (i < atLeastOne count) ⌝ }
     ensures { λ r. ⌜ fieldsOf r ≡ frameIn batch puts count (now (changes .entry)) i ⌝ }
 {
+    // Nothing has changed. Its i is 0, and is named so that the frame is not copied from constant data.
     if count == 0 {
         return Frame {
             batch: batch,
-            index: 0,
+            index: i,
             count: 1,
             kind: 0,
-            key: 0,
+            key: i,
             value: 0,
         };
     }

@@ -6,6 +6,7 @@ use mathlib.Core.Bool.{Bool, true, false, not, _&&_, true≢false}
 use mathlib.Core.Option.{Option, none, some}
 use mathlib.Core.List.{List, [], _∷_}
 use native.Mathlib.Omega.{arith}
+use native.Mathlib.Decide.{ℕ-discrete}
 use lib.Dec.{eqb, ltb, leb}
 use borrow.Author.Tests.{eq-eqb, ne-eqb, lt-leb, le-leb, leb-true}
 use Rattle.model.specs.Frame as model
@@ -140,18 +141,31 @@ ascend-end count place least = refl
 
 -- The only line.
 module _ (f : model.Frame) where
-  pub complete-place : inPlace 1 0 f ≡ false → saysComplete (f ∷ []) ≡ false
-  unfolding saysComplete
-  complete-place p = rw p refl
+  pub complete-count : f .count ≢ 1 → saysComplete (f ∷ []) ≡ false
+  unfolding saysComplete inPlace
+  complete-count n = rw (ne-eqb (f .count) 1 n) (go (eqb (f .index) 0) _ _ _)
+    where
+      go : (b p q r : Bool) → (b && false && p && q && r) ≡ false
+      go true p q r = refl
+      go false p q r = refl
 
-  pub complete-kind : inPlace 1 0 f ≡ true → f .kind ≢ 18 → saysComplete (f ∷ []) ≡ false
-  unfolding saysComplete
-  complete-kind p n = rw (p, ne-eqb (f .kind) 18 n) refl
+  pub complete-kind : f .count ≡ 1 → f .kind ≢ 18 → saysComplete (f ∷ []) ≡ false
+  unfolding saysComplete inPlace
+  complete-kind c n = rw (eq-eqb (f .count) 1 c, ne-eqb (f .kind) 18 n) (go (eqb (f .index) 0) _ _)
+    where
+      go : (b p q : Bool) → (b && true && false && p && q) ≡ false
+      go true p q = refl
+      go false p q = refl
 
-  pub complete-key : inPlace 1 0 f ≡ true → f .kind ≡ 18 → f .key ≢ 0 → saysComplete (f ∷ []) ≡ false
-  unfolding saysComplete
-  complete-key p k n = rw (p, eq-eqb (f .kind) 18 k, ne-eqb (f .key) 0 n) refl
-
-  pub complete-value : inPlace 1 0 f ≡ true → f .kind ≡ 18 → f .key ≡ 0 → saysComplete (f ∷ []) ≡ eqb (f .value) 0
-  unfolding saysComplete
-  complete-value p k e = rw (p, eq-eqb (f .kind) 18 k, eq-eqb (f .key) 0 e) refl
+  -- a sum is 0 exactly where its parts are
+  pub complete-sum : (m : ℕ) → f .count ≡ 1 → f .kind ≡ 18 → m ≡ f .index + f .key + f .value → saysComplete (f ∷ []) ≡ eqb m 0
+  unfolding saysComplete inPlace
+  complete-sum m c k e = go (ℕ-discrete (f .index) 0) (ℕ-discrete (f .key) 0) (ℕ-discrete (f .value) 0)
+    where
+      go : Dec (f .index ≡ 0) → Dec (f .key ≡ 0) → Dec (f .value ≡ 0) → (eqb (f .index) 0 && eqb (f .count) 1 && eqb (f .kind) 18 && eqb (f .key) 0 && eqb (f .value) 0) ≡ eqb m 0
+      go (no i) q r = rw (ne-eqb (f .index) 0 i, ne-eqb m 0 (λ z. i (omega (arith, e, z)))) refl
+      go (yes i) (no q) r = rw (eq-eqb (f .index) 0 i, eq-eqb (f .count) 1 c, eq-eqb (f .kind) 18 k, ne-eqb (f .key) 0 q, ne-eqb m 0 (λ z. q (omega (arith, e, z)))) refl
+      go (yes i) (yes q) (no r) =
+          rw (eq-eqb (f .index) 0 i, eq-eqb (f .count) 1 c, eq-eqb (f .kind) 18 k, eq-eqb (f .key) 0 q, ne-eqb (f .value) 0 r, ne-eqb m 0 (λ z. r (omega (arith, e, z)))) refl
+      go (yes i) (yes q) (yes r) =
+          rw (eq-eqb (f .index) 0 i, eq-eqb (f .count) 1 c, eq-eqb (f .kind) 18 k, eq-eqb (f .key) 0 q, eq-eqb (f .value) 0 r, eq-eqb m 0 (omega (arith, e, i, q, r))) refl

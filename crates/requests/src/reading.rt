@@ -110,7 +110,7 @@ fn ascending(request: &[u8], n: usize) -> bool
     true
 }
 
-// Whether the only line says complete: kind 12 with key and value 0.
+// Whether the only line says complete: kind 12 with key and value 0. Index, key and value are 0 where their sum is: tests field by field would read constant data.
 fn says_complete(request: &[u8]) -> bool
     requires { ⌜ length (now request) ≡ 35 ⌝ }
     ensures { λ r. ⌜ r ≡ holds saysComplete (allFields (cutting 1 (now (request .entry)))) ⌝ }
@@ -118,16 +118,13 @@ fn says_complete(request: &[u8]) -> bool
     let Parsed::Good(f) = line_at(request, 0) else {
         return false;
     };
-    if !in_place(f, 1, 0) {
+    if f.count != 1 {
         return false;
     }
     if f.kind != COMPLETE {
         return false;
     }
-    if f.key != 0 {
-        return false;
-    }
-    f.value == 0
+    wide(f.index) + wide(f.key) + wide(f.value) == 0
 }
 
 // Whether the request is well formed. A short last piece is no line.
@@ -175,7 +172,8 @@ fn choose_run(chosen: &mut [u32], k: u32, first: u32, end: u32) -> u32
     let mut i = first;
     let mut n = k;
     while i < end {
-        chosen[wide(n)] = i;
+        // n is below 4,096; said so, the loop is not made wide, which would read constant data.
+        chosen[wide(n % 4096)] = i;
         n = n + 1;
         i = i + 1;
     }

@@ -6,7 +6,7 @@ use Rattle.lists.proofs.changes.frame_at.Statement.{statement}
 use Rattle.lists.proofs.changes.frame_at.Tie as tie
 
 returns : tie.Need-returns
-returns c = let a = c .before .before .args in frame-none (a .batch) (a .puts) (a .changes .now) (a .i) (a .count) (c .if1 .taken)
+returns c = let a = c .before .before .args in frame-none (a .batch) (a .puts) (a .changes .now) (a .i) (a .count) (c .if1 .taken) (c .before .before .pre .2)
 
 mul-wide : tie.Need-mul-wide
 mul-wide c = let s = c .before .before in omega (arith, s .pre .2, one-few (s .args .count) (s .pre .1))

@@ -1,6 +1,7 @@
 -- Each turn writes one index behind those before it.
 use borrow.Author.Needs.{needs}
 use native.Mathlib.Omega.{arith}
+use mathlib.Core.Path.{_∙_}
 use Prim.Native.Nat.{_-_}
 use Rattle.requests.proofs.Choices.{Written, written-none, written-more, written-all}
 use Rattle.requests.proofs.reading.choose_run.Statement.{statement}
@@ -36,7 +37,8 @@ loop-less c = omega (arith, c .before .loop-test .taken)
 loop-again : tie.Need-loop-again Inv-loop μ-loop
 loop-again c =
     let s = c .before .before .before .before in
-    written-more (c .before .before .loop .inv) (s .pre .0) (omega (arith, s .pre .1, s .pre .2)) (c .before .loop-test .taken) (c .wide .ensures)
+    let I = c .before .before .loop .inv in
+    written-more I (s .pre .0) (omega (arith, s .pre .1, s .pre .2)) (c .before .loop-test .taken) (c .wide .ensures ∙ omega (arith, s .pre .0, s .pre .1, s .pre .2, I .low, I .count))
 
 same-length : tie.Need-same-length Inv-loop μ-loop
 same-length c = search needs

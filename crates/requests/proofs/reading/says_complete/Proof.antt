@@ -1,11 +1,12 @@
 -- The request is this one line, so that its tests are the request's.
 use borrow.Author.Needs.{needs}
 use mathlib.Core.Path.{_≡_}
-use mathlib.Core.Bool.{true}
+use Prim.Native.Nat.{_+_}
 use mathlib.Core.Option.{some}
-use Rattle.model.specs.Request.{inPlace, saysComplete, sixFields}
+use native.Mathlib.Omega.{arith}
+use Rattle.model.specs.Request.{saysComplete, sixFields}
 use Rattle.frame.specs.Fields.{fieldsOf}
-use Rattle.requests.proofs.Judging.{went-on, went-off, six-good, six-none, complete-place, complete-kind, complete-key, complete-value}
+use Rattle.requests.proofs.Judging.{six-good, six-none, complete-count, complete-kind, complete-sum}
 use Rattle.requests.proofs.Cutting.{piece, only-bad, only-good}
 use Rattle.requests.proofs.reading.says_complete.Statement.{statement}
 use Rattle.requests.proofs.reading.says_complete.Tie as tie
@@ -14,9 +15,6 @@ use Rattle.requests.proofs.reading.says_complete.Tie as tie
 line : (c : tie.After-known-told)
     → sixFields (piece (c .before .before .before .before .before .args .request .now) 0) ≡ some (fieldsOf (c .before .f .given .0 .0))
 line c = six-good (c .before .before .before .line-at .ensures) (c .before .f .given .1)
-
-stands : (c : tie.Else1) → inPlace 1 0 (fieldsOf (c .before .before .before .f .given .0 .0)) ≡ true
-stands c = went-on _ (c .before .in-place .ensures) (c .if1 .left)
 
 line-at-requires : tie.Need-line-at-requires
 line-at-requires c κs = search needs
@@ -30,26 +28,31 @@ enum-told c = search needs
 returns : tie.Need-returns
 returns c = only-bad saysComplete _ (six-none (c .before .before .line-at .ensures) (c .enum-told .given .1))
 
-in-place-requires : tie.Need-in-place-requires
-in-place-requires c κs = search needs
-
 returns-2 : tie.Need-returns-2
-returns-2 c = only-good saysComplete _ (line (c .before .before)) (complete-place _ (went-off _ (c .before .in-place .ensures) (c .if1 .taken)))
+returns-2 c = only-good saysComplete _ (line (c .before .before)) (complete-count _ (c .if1 .taken))
 
 returns-3 : tie.Need-returns-3
-returns-3 c =
-    let e = c .before .before in
-    only-good saysComplete _ (line (e .before .before)) (complete-kind _ (stands e) (c .if2 .taken))
+returns-3 c = only-good saysComplete _ (line (c .before .before .before .before)) (complete-kind _ (c .before .before .if1 .left) (c .if2 .taken))
+
+wide-requires : tie.Need-wide-requires
+wide-requires c κs = search needs
+
+wide-requires-2 : tie.Need-wide-requires-2
+wide-requires-2 c κs = search needs
+
+add-result : tie.Need-add-result
+add-result c = search needs
+
+wide-requires-3 : tie.Need-wide-requires-3
+wide-requires-3 c κs = search needs
+
+add-result-2 : tie.Need-add-result-2
+add-result-2 c = search needs
 
 returns-4 : tie.Need-returns-4
 returns-4 c =
-    let e = c .before .before .before .before in
-    only-good saysComplete _ (line (e .before .before)) (complete-key _ (stands e) (c .before .before .if2 .left) (c .if3 .taken))
-
-returns-5 : tie.Need-returns-5
-returns-5 c =
-    let e = c .before .before .before .before .before in
-    only-good saysComplete _ (line (e .before .before)) (complete-value _ (stands e) (c .before .before .before .if2 .left) (c .before .if3 .left))
+    only-good saysComplete _ (line (c .before .before .before .before .before .before .before))
+    (complete-sum _ (c .before .before .wide .result + c .before .wide2 .result + c .wide3 .result) (c .before .before .before .before .before .if1 .left) (c .before .before .before .if2 .left) (omega (arith, c .before .before .wide .ensures, c .before .wide2 .ensures, c .wide3 .ensures)))
 
 pub says-complete-spec : {M : Type 1} → statement M
 says-complete-spec =
@@ -59,8 +62,11 @@ says-complete-spec =
     enum-known-f
     enum-told
     returns
-    in-place-requires
     returns-2
     returns-3
-    returns-4
-    returns-5)
+    wide-requires
+    wide-requires-2
+    add-result
+    wide-requires-3
+    add-result-2
+    returns-4)
