@@ -1,8 +1,8 @@
 -- A batch in a user's words: all of it or nothing, the entries of its single calls, each number exactly when documents 01 and 02 say, and one answer.
 use mathlib.Core.Path.{_≡_, refl, ap, sym, _∙_}
 use mathlib.Core.Logic.{_≢_, _↔_}
-use Prim.Native.Nat.{ℕ, suc, _<_}
-use mathlib.Core.Bool.{Bool, true, false, true≢false}
+use Prim.Native.Nat.{ℕ, _<_}
+use mathlib.Core.Bool.{true, false, true≢false}
 use mathlib.Core.List.{List, [], _∷_}
 use native.Mathlib.Omega.{arith}
 use native.Mathlib.Decide.{ℕ-discrete}
@@ -18,6 +18,8 @@ use Rattle.model.proofs.Orders.{editBy-ordered}
 use Rattle.model.proofs.Steady.{Onward, editBy-onward}
 use Rattle.model.proofs.Versions.{version-ordered}
 use Rattle.model.proofs.Pinned.{edited-once}
+use Rattle.model.proofs.Tests.{not-false}
+use Rattle.model.proofs.Checks.{not-done, given, other}
 use Rattle.model.proofs.Once.{check-once}
 use Rattle.model.proofs.Meanings.{insert-puts, remove-takes-out}
 
@@ -49,10 +51,6 @@ pub record Done (b after : List ℕ) (dst src : ℕ) (legal : Type 0) (es : List
   pub no-zero : NoZero es
   pub enough : short (batchRule es (version (heap b) src) (supply (heap b)) .1) ≡ false
   pub edited : Edited b after dst (batchRule es (version (heap b) src) (supply (heap b)) .0)
-
--- a refusal's number is not 0
-not-done : {n : ℕ} (k : ℕ) → n ≡ suc k → n ≡ 0 → ⊥
-not-done k e z = let p : suc k ≡ 0 = sym e ∙ z in omega arith
 
 module _ {b after : List ℕ} (dst src : ℕ) {legal : Type 0} (es : List Record) {n : ℕ} where
   pub batch-done : Batched b after dst src legal es n → n ≡ 0 → Done b after dst src legal es
@@ -108,18 +106,6 @@ pub record Exactly (b : List ℕ) (dst src : ℕ) (legal : Type 0) (es : List Re
   pub zero : (n ≡ ZERO) ↔ (SoundBlock b × Versions (dst ∷ src ∷ []) × legal × (NoZero es → ⊥))
   -- a make of the batch finds no free node
   pub no-room : (n ≡ NO_ROOM) ↔ (SoundBlock b × Versions (dst ∷ src ∷ []) × legal × NoZero es × (short (batchRule es (version (heap b) src) (supply (heap b)) .1) ≡ true))
-
-not-false : (t : Bool) → (t ≡ false → ⊥) → t ≡ true
-not-false true f = refl
-not-false false f = absurd (f refl)
-
--- the number k is given where it is n, and no other is
-module _ {n k c : ℕ} {X : Type 0} (e : n ≡ c) where
-  given : c ≡ k → X → (n ≡ k) ↔ X
-  given z x = ((λ _. x), (λ _. e ∙ z))
-
-  other : c ≢ k → (X → ⊥) → (n ≡ k) ↔ X
-  other ne f = ((λ z. absurd (ne (sym e ∙ z))), (λ x. absurd (f x)))
 
 module _ {b after : List ℕ} (dst src : ℕ) {legal : Type 0} (es : List Record) {n : ℕ} where
   pub batch-numbers : Batched b after dst src legal es n → Exactly b dst src legal es n

@@ -14,9 +14,12 @@ use Rattle.model.specs.Delta.{Change, changed, puts, removes, delta}
 use Rattle.model.specs.Heap.{load, tree, version, freeFrom, free}
 use Rattle.model.specs.Block.{heap}
 use Rattle.model.specs.Frame.{Frame, digit, value, digits, number, line, kindLegal, legal, fields, Reading, fault, firstBad, judged, read, parse, nothing, frameOf, numbered, framesOf, frames}
-use Rattle.model.specs.Numbers.{SHAPE, DAMAGED, VERSION, RULE, NO_ROOM, TOO_DEEP, FRAME, BATCH, COUNT, DIGIT, KIND, RANGE, ZERO, SUM, REQUEST, EDIT}
+use Rattle.model.specs.Numbers.{SHAPE, DAMAGED, VERSION, RULE, NO_ROOM, TOO_DEEP, FRAME, BATCH, COUNT, DIGIT, KIND, RANGE, ZERO, SUM, REQUEST, EDIT, LINE, ORDER}
 use Rattle.model.specs.Calls.{freshBlock}
 use Rattle.model.specs.Batch.{Record, batchRule}
+use Rattle.model.specs.Text.{entryLine, entryLines, numbersOf, entryOf, lineCount, entryAt, entriesFrom, entriesOf}
+use Rattle.model.specs.Restore as restore
+use Rattle.model.specs.Restore.{ascends, faultAt, restored}
 use Rattle.model.specs.Lists.{rowWords, laid, part, listed, framed}
 use Rattle.model.specs.Inbox.{begun}
 use Rattle.model.specs.Request.{runLine, placed, completeLine, requestLines, inFront, unheard, missingRuns, requestOf, lastOf, asks, asked, inPlace, rightKind, ascend, saysComplete, wellFormed, cutting, sixFields, allFields, readRequest, wanted}
@@ -127,6 +130,14 @@ again =
     ∷ []
     ) leaf (supplyBeside leaf leaf) .0
 
+-- four entries restored, beside a node that stands: the root is entry 2, and its left side is made first
+abbrev loaded : Tree
+loaded = restored (entryLines ((1, 10) ∷ (2, 20) ∷ (3, 30) ∷ (4, 40) ∷ [])) (supplyBeside leaf (node 2 9 90 leaf leaf)) .0
+
+-- lines to be restored: one with a value of 0 and a key behind its predecessor, one with its predecessor's key, a short one
+abbrev faulty : List ℕ
+faulty = entryLines ((5, 10) ∷ (3, 0) ∷ (3, 7) ∷ (4, 1) ∷ []) ++ 48 ∷ []
+
 -- document 01's example: the line 000000070000000101000000030000001f
 abbrev example : Frame
 example = record { batch = 7; index = 0; count = 1; kind = 1; key = 3; value = 31 }
@@ -222,6 +233,14 @@ table =
     }
     ∷ record { number = 0; shown = stands together; told = stands (node 4 2 20 (node 3 1 10 leaf leaf) (node 2 3 30 leaf (node 1 4 40 leaf leaf))) }
     ∷ record { number = 0; shown = stands again; told = stands (node 1 2 20 leaf leaf) }
+    ∷ record { number = 0; shown = stands loaded; told = stands (node 5 3 30 (node 3 2 20 (node 1 1 10 leaf leaf) leaf) (node 4 4 40 leaf leaf)) }
+    ∷ record { number = 0; shown = holds (keys (entriesOf faulty)); told = holds (5 ∷ 3 ∷ 3 ∷ 4 ∷ []) }
+    ∷ record {
+      number = 0;
+      shown = writes (lineCount faulty ∷ faultAt faulty 0 ∷ faultAt faulty 1 ∷ faultAt faulty 2 ∷ faultAt faulty 3 ∷ faultAt faulty 4 ∷ []);
+      told = writes (5 ∷ 0 ∷ 13 ∷ 18 ∷ 0 ∷ 17 ∷ []);
+    }
+    ∷ record { number = 0; shown = writes (faultAt (set faulty 33 13) 1 ∷ faultAt (set faulty 17 65) 1 ∷ faultAt (set faulty 33 13) 2 ∷ []); told = writes (17 ∷ 17 ∷ 0 ∷ []) }
     ∷ record { number = 0; shown = writes (part 4 1 11 (map rowWords (listing (four .0) copy .rows))); told = writes (3 ∷ 30 ∷ 1 ∷ 30 ∷ 4 ∷ 40 ∷ 1 ∷ 44 ∷ []) }
     ∷ record { number = 0; shown = writes (part 4 2 8 (map rowWords (listing three leaf .rows))); told = writes (3 ∷ 30 ∷ 0 ∷ 0 ∷ []) }
     ∷ record { number = 0; shown = writes (laid (listed before 0 1 .pieces)); told = writes (1 ∷ 10 ∷ 0 ∷ 0 ∷ []) }
@@ -253,8 +272,8 @@ table =
     ∷ record { number = 0; shown = sends (wanted (asked lines) 0 (frames 7 three apart)); told = sends (nothing 7 ∷ []) }
     ∷ record {
       number = 0;
-      shown = writes (SHAPE ∷ DAMAGED ∷ VERSION ∷ RULE ∷ NO_ROOM ∷ TOO_DEEP ∷ FRAME ∷ BATCH ∷ COUNT ∷ DIGIT ∷ KIND ∷ RANGE ∷ ZERO ∷ SUM ∷ REQUEST ∷ EDIT ∷ []);
-      told = writes (1 ∷ 2 ∷ 3 ∷ 4 ∷ 5 ∷ 6 ∷ 7 ∷ 8 ∷ 9 ∷ 10 ∷ 11 ∷ 12 ∷ 13 ∷ 14 ∷ 15 ∷ 16 ∷ []);
+      shown = writes (SHAPE ∷ DAMAGED ∷ VERSION ∷ RULE ∷ NO_ROOM ∷ TOO_DEEP ∷ FRAME ∷ BATCH ∷ COUNT ∷ DIGIT ∷ KIND ∷ RANGE ∷ ZERO ∷ SUM ∷ REQUEST ∷ EDIT ∷ LINE ∷ ORDER ∷ []);
+      told = writes (1 ∷ 2 ∷ 3 ∷ 4 ∷ 5 ∷ 6 ∷ 7 ∷ 8 ∷ 9 ∷ 10 ∷ 11 ∷ 12 ∷ 13 ∷ 14 ∷ 15 ∷ 16 ∷ 17 ∷ 18 ∷ []);
     }
     ∷ record { number = 0; shown = writes (freshBlock 32); told = writes (32 ∷ replicate 273 0) }
     ∷ record { number = 0; shown = stands (version (heap amid) 0); told = stands (node 4 1 10 leaf (node 3 2 4294967295 leaf leaf)) }
@@ -263,5 +282,5 @@ table =
 
 -- every case shows what document 01 says
 pub worked-cases : map (λ (c : Case). c .shown) table ≡ map (λ (c : Case). c .told) table
-unfolding table shape keys occurs supplyBeside built size idOf lookup entries firstOf afterFirst isNone among next taken back given freeFrom twice rotateLeft rotateRight balanced insertBy insert removeMin withoutKey removePresent remove editBy batchRule join split unionBy union rest difference mergeBy diffBy turn tooDeep walk listing changed puts removes delta digit value digits number line kindLegal legal fields firstBad judged read parse frameOf numbered framesOf freshBlock rowWords laid begun runLine placed requestLines inFront unheard missingRuns requestOf lastOf asks asked inPlace rightKind ascend saysComplete wellFormed cutting sixFields allFields readRequest wanted load tree before amid
+unfolding table shape keys occurs supplyBeside built size idOf lookup entries firstOf afterFirst isNone among next taken back given freeFrom twice rotateLeft rotateRight balanced insertBy insert removeMin withoutKey removePresent remove editBy batchRule restore.built ascends faultAt join split unionBy union rest difference mergeBy diffBy turn tooDeep walk listing changed puts removes delta digit value digits number entryLine entryLines numbersOf entryOf entryAt entriesFrom line kindLegal legal fields firstBad judged read parse frameOf numbered framesOf freshBlock rowWords laid begun runLine placed requestLines inFront unheard missingRuns requestOf lastOf asks asked inPlace rightKind ascend saysComplete wellFormed cutting sixFields allFields readRequest wanted load tree before amid
 worked-cases = refl

@@ -1,5 +1,6 @@
 -- Checks one after another: either way of a check taken on, and what holds where the number that they give is 0.
 use mathlib.Core.Path.{_≡_, sym, _∙_}
+use mathlib.Core.Logic.{_≢_, _↔_}
 use Prim.Native.Nat.{ℕ, suc}
 use native.Mathlib.Omega.{arith}
 use Rattle.model.specs.Numbers.{SHAPE, DAMAGED}
@@ -22,3 +23,15 @@ module _ {P M : Type 0} {n : ℕ} (k : ℕ) where
 -- shape, then soundness
 pub check-sound : {Shape Sound : Type 0} {n : ℕ} → Check Shape (n ≡ SHAPE) (Check Sound (n ≡ DAMAGED) (n ≡ 0)) → n ≡ 0 → Sound
 check-sound C z = check-holds 1 (check-next 0 C z) z
+
+-- a refusal's number is not 0
+pub not-done : {n : ℕ} (k : ℕ) → n ≡ suc k → n ≡ 0 → ⊥
+not-done k e z = let p : suc k ≡ 0 = sym e ∙ z in omega arith
+
+-- the number k is given where it is n, and no other is
+module _ {n k c : ℕ} {X : Type 0} (e : n ≡ c) where
+  pub given : c ≡ k → X → (n ≡ k) ↔ X
+  given z x = ((λ _. x), (λ _. e ∙ z))
+
+  pub other : c ≢ k → (X → ⊥) → (n ≡ k) ↔ X
+  other ne f = ((λ z. absurd (ne (sym e ∙ z))), (λ x. absurd (f x)))

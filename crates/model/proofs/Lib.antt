@@ -54,6 +54,7 @@ pub mod Cutting
 -- Frames, inbox, replica
 pub mod Digits
 pub mod Lines
+pub mod Texts
 pub mod Faults
 pub mod Frames
 pub mod Heard
@@ -80,3 +81,6 @@ pub mod Drifts
 pub mod Refusals
 pub mod Zeros
 pub mod Batches
+-- Restore
+pub mod Builds
+pub mod Restores

@@ -242,7 +242,7 @@ cut-line : (cs : List ℕ) → length cs ≡ 35 → getD cs 34 0 ≡ 10
 cut-line cs l e = sym (take-all 35 cs (omega arith)) ∙ take-suc cs 34 0 (omega arith) ∙ rw (e, take-add 26 8 cs, take-add 18 8 cs, take-add 16 2 cs, take-add 12 4 cs, take-add 8 4 cs)
 
 -- a field that is read was written so
-digits-field : (cs : List ℕ) (at k n : ℕ) → at + k ≤ length cs → field cs at k ≡ some n → (take k (drop at cs) ≡ digits k n) × (n < 16 ^ k)
+pub digits-field : (cs : List ℕ) (at k n : ℕ) → at + k ≤ length cs → field cs at k ≡ some n → (take k (drop at cs) ≡ digits k n) × (n < 16 ^ k)
 digits-field cs at k n h e =
     let l : length (take k (drop at cs)) ≡ k = length-take-le k (drop at cs) (omega (arith, length-drop at cs)) in
     rw l at (digits-number (take k (drop at cs)) n e)

@@ -1,6 +1,7 @@
 pub mod Tree
 pub mod Supply
 pub mod Rules
+pub mod Balance
 pub mod Listing
 pub mod Delta
 pub mod Heap
@@ -9,10 +10,12 @@ pub mod Sums
 pub mod Numbers
 pub mod Tells
 pub mod Frame
+pub mod Text
 pub mod Inbox
 pub mod Moves
 pub mod Calls
 pub mod Batch
+pub mod Restore
 pub mod Lists
 pub mod Link
 pub mod Request

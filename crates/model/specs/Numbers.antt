@@ -64,3 +64,11 @@ REQUEST = 15
 -- more than 512 records, a record of an unknown kind, or words that are no whole records
 abbrev pub EDIT : ℕ
 EDIT = 16
+
+-- a line of a listing is not 16 digits and a newline
+abbrev pub LINE : ℕ
+LINE = 17
+
+-- a key of a listing is not above its predecessor
+abbrev pub ORDER : ℕ
+ORDER = 18

@@ -10,6 +10,7 @@ use Rattle.model.specs.Tree.{Entry, entries}
 use Rattle.model.specs.Heap.{Occupied, Named, Linked, sizeAt, load, tree}
 use Rattle.model.specs.Block.{heap, room, SoundBlock}
 use Rattle.model.specs.Frame.{digits}
+use Rattle.model.specs.Text.{entryLine, entryLines}
 use Rattle.model.specs.Inbox.{SoundInbox, question}
 use Rattle.model.specs.Calls.{fails, passes}
 use Rattle.model.specs.Link.{Missing}
@@ -19,7 +20,7 @@ use Rattle.model.proofs.Lookups.{link-occupied}
 use Rattle.model.proofs.Versions.{version-named, tree-room}
 use Rattle.block.specs.declared.Node.{Node}
 use Rattle.block.specs.Outcome.{nodeOf}
-use Rattle.receive.specs.Text.{entryLine, entryLines, textOf}
+use Rattle.receive.specs.Text.{textOf}
 
 -- k digits from `at` to n
 pub digits-put : (o p : List ℕ) (at k n x : ℕ) → at + k ≡ n → n ≤ length o → p ≡ take at o ++ (digits k x ++ drop (at + k) o) → take n p ≡ take at o ++ digits k x

@@ -2,22 +2,14 @@
 use mathlib.Core.Path.{_≡_}
 use Prim.Native.Nat.{ℕ}
 use mathlib.Core.List.{List, [], _∷_, _++_}
-use Rattle.model.specs.Tree.{Entry, entries}
+use Rattle.model.specs.Tree.{entries}
 use Rattle.model.specs.Heap.{version}
 use Rattle.model.specs.Block.{heap}
 use Rattle.model.specs.Frame.{digits}
+use Rattle.model.specs.Text.{entryLines}
 use Rattle.model.specs.Inbox.{begun, question}
 use Rattle.model.specs.Calls.{freshBlock}
 use Rattle.hearing.specs.Lines.{HearsSome}
-
--- an entry: key then value, 16 digits and a newline
-unfoldable pub entryLine : Entry → List ℕ
-entryLine e = digits 8 (e .0) ++ (digits 8 (e .1) ++ 10 ∷ [])
-
--- entries one after another
-unfoldable pub entryLines : List Entry → List ℕ
-entryLines [] = []
-entryLines (e ∷ es) = entryLine e ++ entryLines es
 
 -- each entry of version 0, ascending; last, 8 digits of missing and a newline
 abbrev pub textOf : (b x : List ℕ) → List ℕ

@@ -11,8 +11,9 @@ ghost use lib.ListN.{length, take};
 ghost use Rattle.model.specs.Tree.{entries};
 ghost use Rattle.model.specs.Heap.{Named, Linked, sizeAt, tree};
 ghost use Rattle.model.specs.Block.{heap, room, Shaped, SoundBlock};
+ghost use Rattle.model.specs.Text.{entryLine, entryLines};
 ghost use Rattle.model.specs.Inbox.{SoundInbox};
-ghost use Rattle.receive.specs.Text.{entryLine, entryLines, textOf, Reports};
+ghost use Rattle.receive.specs.Text.{textOf, Reports};
 
 const NEWLINE: u8 = 10;
 
