@@ -42,7 +42,7 @@ enum Digit {
 }
 
 // What digits say: a number, or none, and where the first is that is no digit.
-enum Number {
+pub enum Number {
     Is(u32),
     Bad(u32),
 }
@@ -102,7 +102,7 @@ pub fn put_hex(out: &mut [u8], at: usize, k: usize, x: u32)
 }
 
 // The number in the k digits from `at` on. All before them are digits, so the first here that is none is the line's.
-fn read_hex(line: &[u8], at: usize, k: usize) -> Number
+pub fn read_hex(line: &[u8], at: usize, k: usize) -> Number
     requires { ⌜ (at + k ≤ length (now line)) × (at + k ≤ 34) × (k ≤ 8) × (at ≤ model.firstBad (now line)) ⌝ }
     ensures { λ r. ⌜ said r ≡ fieldRead (now (line .entry)) at k ⌝ }
 {

@@ -155,6 +155,15 @@ module _ (t : List ℕ) (i : ℕ) where
           above h (yes l) = absurd (true≢false (sym a ∙ not-ascending t i (e .0) .1 (h, l)))
           above h (no l) = omega arith
 
+  pub good-faultless : (e : Entry) → entryOf (lineAt t i) ≡ some e → e .1 ≢ 0 → (0 < i → entryAt t (i - 1) .0 < e .0) → faultAt t i ≡ 0
+  good-faultless e p n above = go (fault-way t i)
+    where
+      go : {m : ℕ} → Way t i m → m ≡ 0
+      go (malformed q) = absurd (unlike q p)
+      go (nothing d q z) = absurd (n (ap (λ (x : Entry). x .1) (alike p q) ∙ z))
+      go (behind d q m a) = let h = not-ascending t i (d .0) .0 a in absurd (omega (arith, h .0, h .1, above (h .0), ap (λ (x : Entry). x .0) (alike p q)))
+      go (fine d q m a) = refl
+
 -- Texts without a fault.
 
 module _ (t : List ℕ) (F : Faultless t) where
