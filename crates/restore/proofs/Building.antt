@@ -1,18 +1,21 @@
 -- One level of the tree: the left side is built, then the right side beside it, and one make takes both.
-use mathlib.Core.Path.{_≡_, refl, ap, sym, subst, _∙_}
-use Prim.Native.Nat.{ℕ, zero, suc, _+_, _≤_, _<_}
+use mathlib.Core.Path.{_≡_, ap, sym, subst, _∙_}
+use Prim.Native.Nat.{ℕ, zero, suc, _+_, _-_, _*_, _/_, _≤_, _<_}
 use mathlib.Core.List.{List, [], _∷_}
 use lib.ListN.{length, getD, take, drop, length-take, length-drop}
+use lib.Seq.{length-take-le}
 use native.Mathlib.Omega.{arith}
-use Rattle.model.specs.Tree.{Tree, Entry, size}
+use Rattle.model.specs.Tree.{Tree, Entry}
 use Rattle.model.specs.Supply.{Make, make, _>>=_}
-use Rattle.model.specs.Heap.{sizeAt, hit, load, tree}
+use Rattle.model.specs.Heap.{sizeAt, load, tree}
 use Rattle.model.specs.Block.{heap}
 use Rattle.model.specs.Moves.{held, Holding}
+use Rattle.model.specs.Text.{entryAt, entriesOf}
 use Rattle.model.specs.Restore.{middle, built}
 use Rattle.model.proofs.Counts.{hit-no}
 use Rattle.model.proofs.Growing.{came-holding}
 use Rattle.model.proofs.Steady.{Onward, bind-onward, make-onward}
+use Rattle.model.proofs.Texts.{entries-length, entries-take, entries-drop, entries-at}
 use Rattle.model.proofs.Builds.{left-fits, right-fits, built-size, built-onward}
 use Rattle.block.specs.declared.Made.{Made}
 use Rattle.block.specs.declared.Made.the-variants.{At, Full}
@@ -39,10 +42,10 @@ builds-size {b} {c} {qs} {x} es H B =
     out-size b c x (built n es) H (λ m i. omega arith) (B n (omega arith)) ∙ built-size n es (stock H) (omega arith)
 
 -- a list that is not empty, and its two sides
-pub record Sides (es ls rs : List Entry) : Type 0 where
-  pub some : 0 < length es
-  pub left : ls ≡ take (middle es) es
-  pub right : rs ≡ drop (suc (middle es)) es
+record Sides (es ls rs : List Entry) : Type 0 where
+  some : 0 < length es
+  left : ls ≡ take (middle es) es
+  right : rs ≡ drop (suc (middle es)) es
 
 -- the rule of one level
 abbrev top : Entry → ℕ → List Entry → Tree → Make Tree
@@ -66,7 +69,7 @@ level {b} {e} {q} {es = y ∷ es} {ls} {rs} x S g O (suc fuel) h =
 
 module _ {b : List ℕ} {es ls rs : List Entry} (H : Holding b []) (S : Sides es ls rs) (x : Entry) (g : (d : Entry) → getD es (middle es) d ≡ x) where
   -- no room for the left side
-  pub stops-left : {c : List ℕ} → Builds b c ls Full → Builds b c es Full
+  stops-left : {c : List ℕ} → Builds b c ls Full → Builds b c es Full
   unfolding held
   stops-left {c} A = level x S g (λ fuel p q. out-stop b c (built fuel ls) (top x fuel rs) (λ n i. omega arith) (A fuel p) (top-onward x fuel rs))
 
@@ -80,16 +83,17 @@ module _ {b : List ℕ} {es ls rs : List Entry} (H : Holding b []) (S : Sides es
     one = came-holding H (O .came) [] (λ n i. omega arith) (λ n i. omega arith)
 
     -- what building the right side asks
-    pub then-holds : Holding c []
+    then-holds : Holding c []
     unfolding held
     then-holds = came-holding H (O .came) [] (λ n i. omega arith) (λ n i. omega arith)
 
     -- no room for it
-    pub stops-right : {d : List ℕ} → Builds c d rs Full → Builds b d es Full
+    stops-right : {d : List ℕ} → Builds c d rs Full → Builds b d es Full
     unfolding held
-    stops-right {d} B = level x S g (λ fuel p q.
-        out-bind b c d [] l Full (built fuel ls) (top x fuel rs) (λ n i. omega arith) (λ n i. omega arith) (A fuel p)
-        (out-stop c d {ins = []} {tot = l ∷ []} (built fuel rs) (λ u. make (x .0) (x .1) (tree (heap c) l) u) (λ n i. omega arith) (B fuel q) (λ u. make-onward (x .0) (x .1) (tree (heap c) l) u)))
+    stops-right {d} B =
+        let last : Tree → Make Tree = λ u. make (x .0) (x .1) (tree (heap c) l) u in
+        level x S g (λ fuel p q. out-bind b c d [] l Full (built fuel ls) (top x fuel rs) (λ n i. omega arith) (λ n i. omega arith) (A fuel p)
+        (out-stop c d {ins = []} {tot = l ∷ []} (built fuel rs) last (λ n i. omega arith) (B fuel q) (λ u. make-onward (x .0) (x .1) (tree (heap c) l) u)))
 
     module _ {d : List ℕ} {r : ℕ} (B : Builds c d rs (At r)) where
       -- the left side is still a piece beside what the right side became
@@ -98,13 +102,80 @@ module _ {b : List ℕ} {es ls rs : List Entry} (H : Holding b []) (S : Sides es
       beside n i = omega arith
 
       -- what the make asks
-      pub make-asks : length es ≤ 4096 → Asks d l r
-      make-asks few = then-right one (B (length rs) (omega arith)) l beside (omega (arith, builds-size ls H A, builds-size rs one B, rw (S .left) (length-take (middle es) es), rw (S .right) (length-drop (suc (middle es)) es)))
+      make-asks : length es ≤ 4096 → Asks d l r
+      make-asks few =
+          let left = ap length (S .left) ∙ length-take (middle es) es in
+          let right = ap length (S .right) ∙ length-drop (suc (middle es)) es in
+          then-right one (B (length rs) (omega arith)) l beside (omega (arith, builds-size ls H A, builds-size rs one B, left, right))
 
       -- and what it makes
-      pub builds-all : {e : List ℕ} {q : Made} → Outcome d e (l ∷ r ∷ []) q (make (x .0) (x .1) (tree (heap d) l) (tree (heap d) r)) → Builds b e es q
+      builds-all : {e : List ℕ} {q : Made} → Outcome d e (l ∷ r ∷ []) q (make (x .0) (x .1) (tree (heap d) l) (tree (heap d) r)) → Builds b e es q
       unfolding held
-      builds-all {e} {q} M = level x S g (λ fuel p w.
-          out-bind b c e [] l q (built fuel ls) (top x fuel rs) (λ n i. omega arith) (λ n i. omega arith) (A fuel p)
-          (out-bind c d e {ins2 = l ∷ r ∷ []} {tot = l ∷ []} (l ∷ []) r q (built fuel rs) (λ u. make (x .0) (x .1) (tree (heap c) l) u) (λ n i. omega arith) (λ n i. omega arith) (B fuel w)
-          (subst (λ (t : Tree). Outcome d e (l ∷ r ∷ []) q (make (x .0) (x .1) t (tree (heap d) r))) (then-still one (B (length rs) (omega arith)) l beside .tree) M)))
+      builds-all {e} {q} M =
+          let last : Tree → Make Tree = λ u. make (x .0) (x .1) (tree (heap c) l) u in
+          let still = then-still one (B (length rs) (omega arith)) l beside .tree in
+          level x S g (λ fuel p w. out-bind b c e [] l q (built fuel ls) (top x fuel rs) (λ n i. omega arith) (λ n i. omega arith) (A fuel p)
+          (out-bind c d e {ins2 = l ∷ r ∷ []} {tot = l ∷ []} (l ∷ []) r q (built fuel rs) last (λ n i. omega arith) (λ n i. omega arith) (B fuel w)
+          (subst (λ (t : Tree). Outcome d e (l ∷ r ∷ []) q (make (x .0) (x .1) t (tree (heap d) r))) still M)))
+
+-- The lines of a text as such a list: each side is the lines of its own part.
+module _ (t : List ℕ) where
+  abbrev pub half : ℕ
+  half = length t / 17 / 2
+
+  abbrev pub first : List ℕ
+  first = take (17 * half) t
+
+  abbrev pub second : List ℕ
+  second = take (length t - (17 * half + 17)) (drop (17 * half + 17) t)
+
+  halves : middle (entriesOf t) ≡ half
+  halves = ap (λ n. n / 2) (entries-length t 0 (length t / 17))
+
+  module _ (h : 0 < length t / 17) where
+    text-sides : Sides (entriesOf t) (entriesOf first) (entriesOf second)
+    text-sides = record {
+      some = omega (arith, entries-length t 0 (length t / 17));
+      left = entries-take t half (omega arith) ∙ ap (λ n. take n (entriesOf t)) (sym halves);
+      right = entries-drop t (suc half) (17 * half + 17) (omega arith) (omega arith) ∙ ap (λ n. drop (suc n) (entriesOf t)) (sym halves);
+    }
+
+    text-middle : (d : Entry) → getD (entriesOf t) (middle (entriesOf t)) d ≡ entryAt t half
+    text-middle d = ap (λ n. getD (entriesOf t) n d) halves ∙ entries-at t half d (omega arith)
+
+    -- each part is shorter than the text
+    pub first-length : length first ≡ 17 * half
+    first-length = length-take-le (17 * half) t (omega arith)
+
+    pub second-length : length second ≡ length t - (17 * half + 17)
+    second-length = omega (arith, length-take (length t - (17 * half + 17)) (drop (17 * half + 17) t), length-drop (17 * half + 17) t)
+
+-- what a level of the code begins with: some lines, and no more than 4,096
+pub record Begun (b t : List ℕ) : Type 0 where
+  pub holds : Holding b []
+  pub few : length t ≤ 69632
+  pub some : 0 < length t / 17
+
+module _ {b t : List ℕ} (G : Begun b t) where
+  abbrev S : Sides (entriesOf t) (entriesOf (first t)) (entriesOf (second t))
+  S = text-sides t (G .some)
+
+  abbrev middle-is : (d : Entry) → getD (entriesOf t) (middle (entriesOf t)) d ≡ entryAt t (half t)
+  middle-is = text-middle t (G .some)
+
+  pub no-first : {c : List ℕ} → Builds b c (entriesOf (first t)) Full → Builds b c (entriesOf t) Full
+  no-first = stops-left (G .holds) S (entryAt t (half t)) middle-is
+
+  module _ {c : List ℕ} {l : ℕ} (A : Builds b c (entriesOf (first t)) (At l)) where
+    pub first-holds : Holding c []
+    first-holds = then-holds (G .holds) S (entryAt t (half t)) middle-is A
+
+    pub no-second : {d : List ℕ} → Builds c d (entriesOf (second t)) Full → Builds b d (entriesOf t) Full
+    no-second = stops-right (G .holds) S (entryAt t (half t)) middle-is A
+
+    module _ {d : List ℕ} {r : ℕ} (B : Builds c d (entriesOf (second t)) (At r)) where
+      pub both-ask : Asks d l r
+      both-ask = make-asks (G .holds) S (entryAt t (half t)) middle-is A B (omega (arith, G .few, entries-length t 0 (length t / 17)))
+
+      pub both-made : {e : List ℕ} {q : Made} (x : Entry) → x ≡ entryAt t (half t) → Outcome d e (l ∷ r ∷ []) q (make (x .0) (x .1) (tree (heap d) l) (tree (heap d) r)) → Builds b e (entriesOf t) q
+      both-made x p M = builds-all (G .holds) S x (λ d. middle-is d ∙ sym p) A B M

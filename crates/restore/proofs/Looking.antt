@@ -2,24 +2,20 @@
 use mathlib.Core.Path.{_≡_, refl, ap, sym, _∙_}
 use mathlib.Core.Logic.{_≢_, inl, inr}
 use Prim.Native.Nat.{ℕ, zero, suc, _+_, _-_, _*_, _/_, _%_, _≤_, _<_}
-use mathlib.Core.Bool.{true, false}
 use mathlib.Core.Option.{Option, none, some}
 use mathlib.Core.List.{List}
 use lib.ListN.{length, take, drop, length-take, length-drop}
-use lib.Dec.{ltb}
-use borrow.Author.Tests.{lt-ltb, le-ltb}
 use native.Mathlib.Omega.{arith}
-use native.Mathlib.Decide.{ℕ-discrete, decLe}
-use native.Mathlib.Numerals.{add-one}
+use native.Mathlib.Decide.{ℕ-discrete}
 use Rattle.model.specs.Tree.{Entry}
-use Rattle.model.specs.Frame.{field, firstBad}
+use Rattle.model.specs.Frame.{field}
 use Rattle.model.specs.Text.{numbersOf, entryOf, lineAt, lineCount, entryAt}
 use Rattle.model.specs.Numbers.{ZERO, LINE, ORDER}
-use Rattle.model.specs.Restore.{faultAt, FirstFault}
+use Rattle.model.specs.Restore.{faultAt}
 use Rattle.model.proofs.Texts.{Closed, entry-open, entry-closed, entry-at}
 use Rattle.model.proofs.Restores.{fault-line, fault-zero, order-exactly, good-faultless}
 use Rattle.frame.specs.Fields.{fieldRead}
-use Rattle.restore.specs.Answers.{Judged}
+use Rattle.restore.specs.Answers.{orZeros, Judged}
 
 -- The numbers of a line.
 
@@ -72,6 +68,10 @@ looked-none t = record { upto = omega arith; good = λ j h. absurd (omega arith)
 pub piece-line : (t : List ℕ) (i at end : ℕ) → at ≡ 17 * i → end ≡ at + 17 → take (end - at) (drop at t) ≡ lineAt t i
 piece-line t i at end e f = let n : end - at ≡ 17 = omega arith in rw (n, e)
 
+pub piece-entry : (t : List ℕ) (i at end : ℕ) → at ≡ 17 * i → end ≡ at + 17 → orZeros (entryOf (take (end - at) (drop at t))) ≡ entryAt t i
+unfolding entryAt
+piece-entry t i at end e f = ap (λ (cs : List ℕ). orZeros (entryOf cs)) (piece-line t i at end e f)
+
 pub piece-long : (t : List ℕ) (at end : ℕ) → end ≡ at + 17 → end ≤ length t → length (take (end - at) (drop at t)) ≡ 17
 piece-long t at end e h = omega (arith, length-take (end - at) (drop at t), length-drop at t)
 
@@ -101,7 +101,7 @@ module _ {t : List ℕ} {i low : ℕ} (L : Looked t i low) where
 
       above-last : low ≤ k → 0 < i → entryAt t (i - 1) .0 < k
       unfolding lowest
-      above-last le some = go i refl
+      above-last le pos = go i refl
         where
           go : (j : ℕ) → i ≡ j → entryAt t (i - 1) .0 < k
           go zero p = absurd (omega arith)
@@ -112,9 +112,15 @@ module _ {t : List ℕ} {i low : ℕ} (L : Looked t i low) where
       goes-on le = record {
         upto = omega arith;
         good = λ j lt. next j lt (ℕ-discrete j i);
-        least = rw (add-one, entry-at t i (k, v) (sym e)) (omega arith);
+        least = least;
       }
         where
+          least : k + 1 ≡ lowest t (i + 1)
+          least =
+              let n : suc i ≡ i + 1 = omega arith in
+              let s : k + 1 ≡ suc (entryAt t i .0) = omega (arith, ap (λ (x : Entry). x .0) (entry-at t i (k, v) (sym e))) in
+              s ∙ ap (lowest t) n
+
           next : (j : ℕ) → j < i + 1 → Dec (j ≡ i) → faultAt t j ≡ 0
           next j lt (yes p) = rw p (good-faultless t i (k, v) (sym e) ne (above-last le))
           next j lt (no p) = L .good j (omega arith)
