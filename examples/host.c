@@ -128,6 +128,19 @@ static void bring_up_to_date(uint32_t batch)
     expect_done("ksk_copy", ksk_copy(primary, KSK_BLOCK_WORDS(N), SENT, OPEN_CALLS));
 }
 
+/* After maintenance a version is loaded from lines, key then value; in the second text the keys do not ascend. */
+static void restore(void)
+{
+    static const char text[] = "000000010000000a\n000000030000001e\n";
+    static const char turned[] = "000000030000001e\n000000010000000a\n";
+    uint64_t line;
+
+    expect_done("ksk_restore", ksk_restore(primary, KSK_BLOCK_WORDS(N), 4, (const uint8_t *)text, sizeof text - 1, &line));
+    print(primary, 4);
+    if (ksk_restore(primary, KSK_BLOCK_WORDS(N), 4, (const uint8_t *)turned, sizeof turned - 1, &line) == KSK_ORDER)
+        printf("not restored: line %llu is out of order\n", (unsigned long long)line);
+}
+
 /* An account's call numbers are a range, so its open calls hold what the version holds between the two ends. */
 static void print_account(uint32_t account)
 {
@@ -179,6 +192,7 @@ int main(void)
     flush();
     send(0, 1, 8, 0);
     print(standby, 0);
+    restore();
     accounts();
     return 0;
 }

@@ -2,7 +2,7 @@
 
 mod ksk;
 
-use ksk::{Block, Declined, Edit, Frame, Inbox, Ledger, Refusal};
+use ksk::{Block, Declined, Edit, Frame, Inbox, Ledger, NotRestored, Refusal};
 use std::error::Error;
 
 /// The version that the ledger is over: it holds the open calls.
@@ -29,6 +29,7 @@ fn main() -> Result<(), Box<dyn Error>> {
     flush(&mut primary)?;
     send(&primary, 0, 1, 8, &mut standby, 0)?;
     print(&standby, 0)?;
+    restore(&mut primary)?;
     accounts(&mut primary, &mut standby)?;
     Ok(())
 }
@@ -83,6 +84,16 @@ fn flush(primary: &mut Block) -> Result<(), Refusal> {
 fn print(block: &Block, version: u32) -> Result<(), Refusal> {
     for entry in block.list(version, EMPTY)? {
         println!("call {} holds {} minutes", entry.key, entry.left);
+    }
+    Ok(())
+}
+
+/// After maintenance a version is loaded from lines, key then value; in the second text the keys do not ascend.
+fn restore(primary: &mut Block) -> Result<(), Box<dyn Error>> {
+    primary.restore(4, b"000000010000000a\n000000030000001e\n")?;
+    print(primary, 4)?;
+    if let Err(NotRestored { why: Refusal::Order, line: Some(line) }) = primary.restore(4, b"000000030000001e\n000000010000000a\n") {
+        println!("not restored: line {line} is out of order");
     }
     Ok(())
 }

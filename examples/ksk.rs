@@ -16,6 +16,7 @@ extern "C" {
     fn ksk_copy(block: *mut u32, words: usize, dest: c_uint, source: c_uint) -> c_uint;
     fn ksk_clear(block: *mut u32, words: usize, version: c_uint) -> c_uint;
     fn ksk_batch(block: *mut u32, words: usize, dest: c_uint, source: c_uint, edits: *const u32, edit_words: usize) -> c_uint;
+    fn ksk_restore(block: *mut u32, words: usize, version: c_uint, text: *const u8, bytes: usize, line: *mut u64) -> c_uint;
     fn ksk_union(block: *mut u32, words: usize, dest: c_uint, left: c_uint, right: c_uint, rule: c_uint) -> c_uint;
     fn ksk_difference(block: *mut u32, words: usize, dest: c_uint, left: c_uint, right: c_uint, rule: c_uint, cancel: c_uint) -> c_uint;
     fn ksk_list(block: *const u32, words: usize, left: c_uint, right: c_uint, start: c_uint, out: *mut u32, out_words: usize, written: *mut u32, total: *mut u32) -> c_uint;
@@ -55,6 +56,8 @@ pub enum Refusal {
     Sum,
     Request,
     Edit,
+    Line,
+    Order,
 }
 
 impl fmt::Display for Refusal {
@@ -64,6 +67,24 @@ impl fmt::Display for Refusal {
 }
 
 impl Error for Refusal {}
+
+/// Why a text was not restored, and the number of the line that is at fault, from 0, if one is.
+#[derive(Clone, Copy, Debug, PartialEq, Eq)]
+pub struct NotRestored {
+    pub why: Refusal,
+    pub line: Option<u64>,
+}
+
+impl fmt::Display for NotRestored {
+    fn fmt(&self, f: &mut fmt::Formatter) -> fmt::Result {
+        match self.line {
+            Some(line) => write!(f, "line {line}: {}", self.why),
+            None => self.why.fmt(f),
+        }
+    }
+}
+
+impl Error for NotRestored {}
 
 /// The value of a common key in a union; a sum that does not fit is `Refusal::Sum`.
 #[derive(Clone, Copy, Debug)]
@@ -126,7 +147,9 @@ fn heard(number: u32, place: u32) -> Result<(), Refusal> {
         14 => Refusal::Sum,
         15 => Refusal::Request,
         16 => Refusal::Edit,
-        other => unreachable!("the table gives numbers 0 to 16, not {other}"),
+        17 => Refusal::Line,
+        18 => Refusal::Order,
+        other => unreachable!("the table gives numbers 0 to 18, not {other}"),
     })
 }
 
@@ -212,6 +235,15 @@ impl Block {
         };
         let words: Vec<u32> = edits.iter().flat_map(record).collect();
         done(unsafe { ksk_batch(self.words.as_mut_ptr(), self.words.len(), dest, source, words.as_ptr(), words.len()) })
+    }
+
+    /// The version becomes what the lines say: 16 digits and a newline each, key then value, keys ascending.
+    pub fn restore(&mut self, version: u32, text: &[u8]) -> Result<(), NotRestored> {
+        let mut line = 0;
+        done(unsafe { ksk_restore(self.words.as_mut_ptr(), self.words.len(), version, text.as_ptr(), text.len(), &mut line) }).map_err(|why| {
+            let faulty = matches!(why, Refusal::Line | Refusal::Zero | Refusal::Order);
+            NotRestored { why, line: faulty.then_some(line) }
+        })
     }
 
     pub fn union(&mut self, dest: u32, left: u32, right: u32, rule: Merge) -> Result<(), Refusal> {

@@ -2,7 +2,8 @@
  *
  * Every call answers a number, 0 for done. A refusal leaves every lent word and byte as it was, and sets every field
  * behind a pointer to 0; the exceptions are a line's `place`, which holds the place of the bad digit beside KSK_DIGIT,
- * and a ledger's `table`, which holds the table's number beside KSK_LOOKUP and KSK_EDIT_REFUSED. A slice is a pointer
+ * restore's `line`, which holds the number of the faulty line beside KSK_LINE, KSK_ZERO and KSK_ORDER, and a ledger's
+ * `table`, which holds the table's number beside KSK_LOOKUP and KSK_EDIT_REFUSED. A slice is a pointer
  * and a length, in words or in bytes; a slice of length 0 may have any pointer that is not NULL. Pointers are aligned
  * for what they point to, and no two slices or pointers of one call may overlap. While a call runs no other thread may
  * use what it is lent, and its thread must have KSK_STACK_BYTES of stack.
@@ -17,7 +18,8 @@
 extern "C" {
 #endif
 
-/* Numbers a call gives back, in the order in which they are checked: 1, 2, 3, 4, 16, 13, 14, 7 or 15, 10, 11, 12, 8, 9, 13 of a line, 6, 5. */
+/* Numbers a call gives back, in the order in which they are checked: 1, 2, 3, 4, 16, 13, 14, 7 or 15, 10, 11, 12, 8, 9, 13 of a line, 6, 5.
+ * Restore: 1, 2, 3, then the first faulty line, of which 17 goes before 13 and 13 before 18, then 5. */
 #define KSK_DONE     0u
 #define KSK_SHAPE    1u /* block length or N is wrong, or inbox not 130 words */
 #define KSK_DAMAGED  2u /* block not sound, or inbox not sound */
@@ -31,10 +33,12 @@ extern "C" {
 #define KSK_DIGIT    10u /* a byte of a line's 34 is no lower-case hexadecimal digit; place is that of the first, 0 to 33 */
 #define KSK_KIND     11u /* a line's kind is above 2 */
 #define KSK_RANGE    12u /* any other field rule of a line is broken: docs/LINES.md */
-#define KSK_ZERO     13u /* a value of 0 was to be put, by an insert, a batch or a line */
+#define KSK_ZERO     13u /* a value of 0 was to be put, by an insert, a batch, a line or a restore */
 #define KSK_SUM      14u /* union rule 4: the sum of a common key is above 4,294,967,295 */
 #define KSK_REQUEST  15u /* a request is empty, or a line of it is malformed, out of its place or order, or of another kind */
 #define KSK_EDIT     16u /* batch: more than 512 records, a record of another kind, or words that are no whole records */
+#define KSK_LINE     17u /* restore: a line is not 16 lower-case hexadecimal digits and a newline */
+#define KSK_ORDER    18u /* restore: a key is not above that of the line before it */
 
 /* Numbers of the ledger, in the order in which they are checked. */
 #define KSK_ACCOUNTS     21u /* the ledger is not three words for each of 1 to 256 accounts; fresh: or not of the number given */
@@ -58,6 +62,7 @@ extern "C" {
 #define KSK_REMOVE         2u
 #define KSK_BATCH_RECORDS  512u /* at most */
 #define KSK_LINE_BYTES     35u /* a frame's line: 34 digits and a newline */
+#define KSK_TEXT_BYTES     17u /* a line of a listing as text: key then value, 16 digits and a newline */
 #define KSK_UNKNOWN        4294967295u /* what ksk_missing gives while the count is unknown */
 #define KSK_STACK_BYTES    1048576u /* what a thread must have left on its stack when it makes a call; oracle/stack/run holds every call to it */
 
@@ -92,6 +97,11 @@ uint32_t ksk_copy(uint32_t *block, size_t words, uint32_t dest, uint32_t source)
  * The nodes that stood before stay until the end, so a batch may be refused for room where single calls would pass; what it made itself and takes apart is used again at once, so it may
  * also pass where one of them would not. No records: as ksk_copy. */
 uint32_t ksk_batch(uint32_t *block, size_t words, uint32_t dest, uint32_t source, const uint32_t *edits, size_t edit_words);
+
+/* A version becomes what the lines of a text say, KSK_TEXT_BYTES each, keys ascending, as the receiving program prints them; no lines: it becomes empty. The text is cut every 17 bytes, and a
+ * short last piece is KSK_LINE. The first faulty line decides, and line is its number from 0, else 0. The tree is built from the middle line; a node is made for each line, and the version's old nodes
+ * stay until the end, so as many must be free as there are lines. */
+uint32_t ksk_restore(uint32_t *block, size_t words, uint32_t version, const uint8_t *text, size_t bytes, uint64_t *line);
 
 /* A version becomes empty. */
 uint32_t ksk_clear(uint32_t *block, size_t words, uint32_t version);

@@ -1,6 +1,7 @@
 // What the switch's host calls: one call each, and nothing else. Each answers the number and sets its fields through the pointers.
 ghost use Rattle.model.specs.Calls.{Fresh, Lookup, Size, Held, HeldBetween, Edits, inserting, removing, copying, clearing, uniting, lessening, Checked};
 ghost use Rattle.model.specs.Batch.{BatchWords};
+ghost use Rattle.model.specs.Restore.{Restore};
 ghost use Rattle.model.specs.Frame.{read};
 ghost use Rattle.model.specs.Lists.{Lists, listed, framed, Same};
 ghost use Rattle.model.specs.Link.{Parse, Begin, Missing, Receive};
@@ -124,6 +125,16 @@ pub extern "C" fn ksk_batch(block: &mut [u32], dest: u32, source: u32, edits: &[
     ensures { λ r. ⌜ BatchWords (now (block .entry)) (now (block .exit)) dest source (now (edits .entry)) r ⌝ }
 {
     batch::batch_words(block, dest, source, edits)
+}
+
+// A version becomes what the lines of a text say; line is the number of a faulty one.
+#[no_mangle]
+pub extern "C" fn ksk_restore(block: &mut [u32], version: u32, text: &[u8], line: &mut u64) -> u32
+    ensures { λ r. ⌜ Restore (now (block .entry)) (now (block .exit)) version (now (text .entry)) r (now (line .exit)) ⌝ }
+{
+    let a = restore::restore(block, version, text);
+    *line = a.line;
+    a.number
 }
 
 // A version becomes empty.
