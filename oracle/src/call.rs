@@ -1,6 +1,7 @@
 //! The calls that are lent a block, and what comes back.
 
 use crate::batch::records;
+use crate::restore;
 
 #[derive(Clone, Debug)]
 pub enum Call {
@@ -42,6 +43,10 @@ pub enum Call {
     },
     Clear {
         version: u32,
+    },
+    Restore {
+        version: u32,
+        text: restore::Text,
     },
     Union {
         dest: u32,
@@ -94,8 +99,8 @@ pub enum Call {
     },
 }
 
-/// The number, two fields in the order of the export's pointers (minutes: their low and high words), the place of a line's bad digit, and the whole output:
-/// what was not written keeps its pattern.
+/// The number, two fields in the order of the export's pointers (of minutes and of a faulty line's number the low and the high word), the place of a line's bad
+/// digit, and the whole output: what was not written keeps its pattern.
 #[derive(Clone, PartialEq, Eq, Debug, Default)]
 pub struct Reply {
     pub number: u32,
@@ -127,6 +132,7 @@ impl Call {
             | Call::Held { version }
             | Call::HeldBetween { version, .. }
             | Call::Clear { version }
+            | Call::Restore { version, .. }
             | Call::Receive { version, .. } => vec![version],
             Call::Insert { dest, source, .. }
             | Call::Remove { dest, source, .. }
@@ -143,6 +149,14 @@ impl Call {
         match self {
             Call::Batch { edits, .. } => records(edits).is_some(),
             _ => true,
+        }
+    }
+
+    /// The first faulty line of a listing.
+    pub fn faulty_line(&self) -> Option<restore::Fault> {
+        match self {
+            Call::Restore { text, .. } => restore::entries(&text.0).err(),
+            _ => None,
         }
     }
 

@@ -25,6 +25,7 @@ extern "C" {
     pub fn ksk_remove(block: *mut u32, words: usize, dest: u32, source: u32, key: u32, had: *mut u32, old: *mut u32) -> u32;
     pub fn ksk_copy(block: *mut u32, words: usize, dest: u32, source: u32) -> u32;
     fn ksk_batch(block: *mut u32, words: usize, dest: u32, source: u32, edits: *const u32, edit_words: usize) -> u32;
+    fn ksk_restore(block: *mut u32, words: usize, version: u32, text: *const u8, bytes: usize, line: *mut u64) -> u32;
     pub fn ksk_clear(block: *mut u32, words: usize, version: u32) -> u32;
     pub fn ksk_union(block: *mut u32, words: usize, dest: u32, left: u32, right: u32, rule: u32) -> u32;
     pub fn ksk_difference(block: *mut u32, words: usize, dest: u32, left: u32, right: u32, rule: u32, cancel: u32) -> u32;
@@ -115,6 +116,13 @@ pub fn batch(block: &mut [u32], dest: u32, source: u32, edits: &mut [u32]) -> u3
     unsafe { ksk_batch(block.as_mut_ptr(), block.len(), dest, source, edits.as_mut_ptr(), edits.len()) }
 }
 
+/// The number and the faulty line's. The text is only read; it is given to change, so that a change would be seen.
+pub fn restore(block: &mut [u32], version: u32, text: &mut [u8]) -> (u32, u64) {
+    let mut line = u64::MAX;
+    let number = unsafe { ksk_restore(block.as_mut_ptr(), block.len(), version, text.as_mut_ptr(), text.len(), &mut line) };
+    (number, line)
+}
+
 /// What fields hold before a call: a refusal must set them to zero, not leave them.
 const STALE: u32 = 0xdead_beef;
 
@@ -134,10 +142,10 @@ pub fn parse(line: &[u8]) -> (u32, u32, Frame) {
 }
 
 /// How often each number was answered.
-pub static ANSWERS: [AtomicU64; 17] = [const { AtomicU64::new(0) }; 17];
+pub static ANSWERS: [AtomicU64; 19] = [const { AtomicU64::new(0) }; 19];
 
 /// The numbers that a call on a block can answer: a comparison that never meets one compares less than it says.
-pub const NUMBERS: [usize; 17] = [0, 1, 2, 3, 4, 5, 6, 7, 8, 9, 10, 11, 12, 13, 14, 15, 16];
+pub const NUMBERS: [usize; 19] = [0, 1, 2, 3, 4, 5, 6, 7, 8, 9, 10, 11, 12, 13, 14, 15, 16, 17, 18];
 
 /// Runs a call. Fields that an export does not have stay zero.
 pub fn run(block: &mut [u32], inbox: &mut [u32], call: &Call) -> Reply {
@@ -168,16 +176,9 @@ pub fn run_into(block: &mut [u32], inbox: &mut [u32], call: &Call, reply: &mut R
                 *x = STALE;
                 ksk_same(b, words, from, to, x)
             }
-            Call::Held { version } => {
-                let mut minutes = u64::MAX;
-                let number = ksk_held(b, words, version, &mut minutes);
-                (*x, *y) = (minutes as u32, (minutes >> 32) as u32);
-                number
-            }
-            Call::HeldBetween { version, first, last } => {
-                let mut minutes = u64::MAX;
-                let number = ksk_held_between(b, words, version, first, last, &mut minutes);
-                (*x, *y) = (minutes as u32, (minutes >> 32) as u32);
+            Call::Held { .. } | Call::HeldBetween { .. } | Call::Restore { .. } => {
+                let (number, field) = wide(b, words, call);
+                (*x, *y) = (field as u32, (field >> 32) as u32);
                 number
             }
             _ => {
@@ -209,4 +210,16 @@ pub fn run_into(block: &mut [u32], inbox: &mut [u32], call: &Call, reply: &mut R
             }
         }
     };
+}
+
+/// The calls whose one field has 64 bits.
+unsafe fn wide(b: *mut u32, words: usize, call: &Call) -> (u32, u64) {
+    let mut field = u64::MAX;
+    let number = match *call {
+        Call::Held { version } => ksk_held(b, words, version, &mut field),
+        Call::HeldBetween { version, first, last } => ksk_held_between(b, words, version, first, last, &mut field),
+        Call::Restore { version, ref text } => ksk_restore(b, words, version, text.0.as_ptr(), text.0.len(), &mut field),
+        _ => unreachable!("its fields are words"),
+    };
+    (number, field)
 }

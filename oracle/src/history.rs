@@ -7,6 +7,7 @@ use crate::frame::INBOX;
 use crate::original::{self, Map};
 use crate::plain;
 use crate::random::Random;
+use crate::restore;
 use crate::table::Table;
 use crate::wbtree::map::look;
 
@@ -46,6 +47,9 @@ impl Trio {
         same_words("inbox", &inbox, &self.inbox)?;
         if reply.number == 0 {
             original::follow(&mut self.maps, call, &reply)?;
+            if let Call::Restore { version, .. } = *call {
+                original::reshape(&mut self.maps, version, &self.block)?;
+            }
         }
         original::alike(&self.block, &self.maps)?;
         Ok(reply)
@@ -147,6 +151,23 @@ impl Mix {
         Call::Batch { dest, source, edits }
     }
 
+    /// A listing, mostly short; once in a while a line that is refused.
+    pub fn restore(self, random: &mut Random, version: u32) -> Call {
+        let most = random.pick(&[4, 12, 12, 40, 300]);
+        let mut entries: Vec<restore::Entry> =
+            (0..random.below(most)).map(|_| (self.key(random), self.value(random).max(1))).collect();
+        entries.sort();
+        entries.dedup_by_key(|entry| entry.0);
+        if random.once_in(self.illegal) {
+            entries.push((self.key(random), random.below(2) as u32));
+        }
+        let mut text = restore::lines(&entries);
+        if random.once_in(self.illegal) {
+            text.pop();
+        }
+        Call::Restore { version, text: restore::Text(text) }
+    }
+
     /// An edit. Inserts lead, so that trees grow until room is short.
     pub fn edit(self, random: &mut Random) -> Call {
         let dest = self.version(random);
@@ -163,6 +184,7 @@ impl Mix {
                 let source = if random.once_in(4) { self.version(random) } else { dest };
                 self.batch(random, dest, source)
             }
+            12 if random.once_in(3) => self.restore(random, dest),
             12 | 13 => Call::Copy { dest, source: self.version(random) },
             14 if random.once_in(3) => Call::Clear { version: dest },
             14..=16 => Call::Union { dest, left: self.version(random), right: self.version(random), rule: self.rule(random, 5) },

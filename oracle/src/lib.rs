@@ -13,6 +13,7 @@ pub mod parts;
 pub mod plain;
 pub mod random;
 pub mod request;
+pub mod restore;
 pub mod rules;
 pub mod sound;
 pub mod table;

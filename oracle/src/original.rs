@@ -4,6 +4,7 @@ use crate::block::Block;
 use crate::call::{Call, Reply};
 use crate::frame::Frame;
 use crate::plain::frame_edit;
+use crate::restore;
 use crate::rules::{merged, reduced};
 use crate::walk::Row;
 use crate::wbtree::map::look::{self, Spot};
@@ -26,6 +27,11 @@ pub fn edit(maps: &mut [Map], call: &Call) -> Option<u32> {
         Call::Batch { dest, source, ref edits } => on_copy(maps, dest, source, |map| one_by_one(map, edits)),
         Call::Clear { version } => {
             maps[version as usize].clear();
+            None
+        }
+        Call::Restore { version, ref text } => {
+            let entries = restore::entries(&text.0).expect("the call was done");
+            maps[version as usize] = inserted(&entries);
             None
         }
         Call::Union { dest, left, right, rule } => {
@@ -53,6 +59,24 @@ fn one_by_one(map: &mut Map, edits: &[u32]) -> Option<u32> {
         };
     }
     None
+}
+
+/// The original has no restore: its own inserts come to the same entries, mostly under another shape.
+fn inserted(entries: &[restore::Entry]) -> Map {
+    let mut map = Map::new();
+    for &(key, value) in entries {
+        map.insert(key, value);
+    }
+    map
+}
+
+/// After a restore the version's entries must be those of the original's inserts; then the original goes on from the block's shape.
+pub fn reshape(maps: &mut [Map], version: u32, words: &[u32]) -> Result<(), String> {
+    let (map, empty) = (&mut maps[version as usize], Map::new());
+    let restored = look::plant(words).swap_remove(version as usize);
+    same("restored entries", rows(map, &empty), rows(&restored, &empty))?;
+    *map = restored;
+    Ok(())
 }
 
 /// With one version as both the call edits in place, else it edits a clone.

@@ -13,6 +13,7 @@ pub mod limits;
 pub mod lines;
 pub mod link;
 pub mod repair;
+pub mod restore;
 pub mod room;
 pub mod sums;
 pub mod uneven;

@@ -4,6 +4,7 @@ use crate::batch::{self, records, EDIT};
 use crate::call::{Call, Reply};
 use crate::frame::{self, Fault, Frame, LINE};
 use crate::request;
+use crate::restore;
 use crate::rules::{self, Supply, Tree};
 use crate::table::Table;
 use crate::walk::{self, TooDeep};
@@ -17,15 +18,16 @@ pub const COUNT: u32 = 9;
 pub const ZERO: u32 = 13;
 pub const SUM: u32 = 14;
 
-/// A refusal's number, and the place of a bad digit.
-struct Refusal {
+/// A refusal's number, the place of a bad digit, and the number of a listing's faulty line.
+pub struct Refusal {
     number: u32,
     place: u32,
+    line: u64,
 }
 
 impl From<u32> for Refusal {
     fn from(number: u32) -> Refusal {
-        Refusal { number, place: 0 }
+        Refusal { number, place: 0, line: 0 }
     }
 }
 
@@ -37,7 +39,13 @@ impl From<TooDeep> for Refusal {
 
 impl From<Fault> for Refusal {
     fn from(Fault { number, place }: Fault) -> Refusal {
-        Refusal { number, place }
+        Refusal { number, place, line: 0 }
+    }
+}
+
+impl From<restore::Fault> for Refusal {
+    fn from(restore::Fault { number, line }: restore::Fault) -> Refusal {
+        Refusal { number, place: 0, line }
     }
 }
 
@@ -46,28 +54,30 @@ pub fn answer(table: &mut Table, inbox: &mut [u32], call: &Call) -> Reply {
     let mut reply = call.blank();
     match run(table, inbox, call, &mut reply) {
         Ok(()) => reply,
-        Err(Refusal { number, place }) => Reply { number, place, ..call.blank() },
+        Err(Refusal { number, place, line }) => Reply { number, place, fields: halves(line), ..call.blank() },
     }
 }
 
-/// What is looked at before anything else: versions, rules, records, zeros and sums.
-pub fn refused(table: &Table, call: &Call) -> Option<u32> {
+/// What is looked at before anything else: versions, rules, records, a listing's lines, zeros and sums.
+pub fn refused(table: &Table, call: &Call) -> Option<Refusal> {
     if call.versions().iter().any(|&version| version > 15) {
-        Some(VERSION)
+        Some(VERSION.into())
     } else if !call.rule_known() {
-        Some(RULE)
+        Some(RULE.into())
     } else if !call.edits_known() {
-        Some(EDIT)
+        Some(EDIT.into())
+    } else if let Some(fault) = call.faulty_line() {
+        Some(fault.into())
     } else if call.puts_zero() {
-        Some(ZERO)
+        Some(ZERO.into())
     } else {
-        exceeds(table, call).then_some(SUM)
+        exceeds(table, call).then_some(SUM.into())
     }
 }
 
 fn run(table: &mut Table, inbox: &mut [u32], call: &Call, reply: &mut Reply) -> Result<(), Refusal> {
-    if let Some(number) = refused(table, call) {
-        return Err(number.into());
+    if let Some(refusal) = refused(table, call) {
+        return Err(refusal);
     }
     let tree = |version: u32| table.versions[version as usize].clone();
     match *call {
@@ -114,8 +124,8 @@ fn minutes(tree: &Tree, first: u32, last: u32) -> u64 {
     minutes(&node.left, first, last) + own + minutes(&node.right, first, last)
 }
 
-fn halves(minutes: u64) -> [u32; 2] {
-    [minutes as u32, (minutes >> 32) as u32]
+fn halves(number: u64) -> [u32; 2] {
+    [number as u32, (number >> 32) as u32]
 }
 
 fn found(value: Option<u32>) -> [u32; 2] {
@@ -163,6 +173,10 @@ fn ruled(table: &Table, supply: &mut Supply, call: &Call) -> (u32, Tree, [u32; 2
             (dest, batch::run(supply, tree(source), &edits), [0; 2])
         }
         Call::Clear { version } => (version, None, [0; 2]),
+        Call::Restore { version, ref text } => {
+            let entries = restore::entries(&text.0).expect("the lines were checked");
+            (version, restore::build(supply, &entries), [0; 2])
+        }
         Call::Union { dest, left, right, rule } => (dest, rules::union(supply, tree(left), tree(right), rule), [0; 2]),
         Call::Difference { dest, left, right, rule, cancel } => {
             (dest, rules::difference(supply, tree(left), tree(right), rule, cancel == 1), [0; 2])

@@ -10,6 +10,7 @@ mod frame;
 mod original;
 mod plain;
 mod random;
+mod restore;
 mod rules;
 mod table;
 mod walk;

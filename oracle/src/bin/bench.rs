@@ -7,6 +7,7 @@ use oracle::frame::{Frame, INBOX};
 use oracle::ledger::{self, Op};
 use oracle::original::{self, Map};
 use oracle::plain;
+use oracle::restore;
 use oracle::rules::{Supply, Tree};
 use oracle::random::Random;
 use oracle::sizes;
@@ -366,6 +367,26 @@ fn questions(n: usize, rounds: usize) {
     }
 }
 
+/// A restore into an empty version, beside the same audit in Rust and the original's own inserts in that order; the original reads no text.
+fn restores(n: usize, rounds: usize) {
+    println!("\n{:42} {:>6} {:>13} {:>13}", format!("N = {n}, restores"), "ratio", "exported, ns", "inserts, ns");
+    let start = Table::fresh(n).words();
+    for (name, count) in [("restore of 100 lines", 100), ("restore of 2,000 lines", 2000)] {
+        let entries: Vec<restore::Entry> = (0..count).map(|key| (2 * key, key + 1)).collect();
+        let mut text = restore::lines(&entries);
+        let (mut exported, mut own) = (u128::MAX, u128::MAX);
+        for _ in 0..rounds {
+            let (mut block, mut map) = (start.clone(), Map::new());
+            exported = exported.min(nanoseconds(|| assert_eq!(exports::restore(black_box(&mut block), 0, &mut text), (0, 0))));
+            own = own.min(nanoseconds(|| {
+                assert_eq!(sizes::check(black_box(&start)), 0);
+                entries.iter().for_each(|&(key, value)| assert_eq!(black_box(&mut map).insert(key, value), None));
+            }));
+        }
+        println!("{name:42} {:6.2} {exported:13} {own:13}", exported as f64 / own as f64);
+    }
+}
+
 /// Whether the exported union of two versions of k entries each, of which so many in a hundred are common, finds room beside them.
 fn finds_room(n: usize, k: u32, common: u32) -> bool {
     let mut table = entries(n, k, 0);
@@ -415,6 +436,7 @@ fn main() {
     }
     operations(4096, rounds);
     questions(4096, rounds);
+    restores(4096, rounds);
     reading_lines(rounds);
     [2048, 4096].iter().for_each(|&n| bad_line(n, rounds));
 }

@@ -1,13 +1,13 @@
 //! Compares the exported calls with the original and with documents 01 and 02. Usage: compare [seed] [times]
 
 use oracle::exports::{ANSWERS, NUMBERS};
-use oracle::parts::{batch, cases, damage, drift, exhaustive, held, histories, ledger, limits, lines, link, repair, room, sums, uneven, zeros, Compared, Effort};
+use oracle::parts::{batch, cases, damage, drift, exhaustive, held, histories, ledger, limits, lines, link, repair, restore, room, sums, uneven, zeros, Compared, Effort};
 use std::process::ExitCode;
 use std::sync::atomic::{AtomicUsize, Ordering};
 use std::thread;
 use std::time::Instant;
 
-const PARTS: [(&str, fn(Effort) -> Compared); 21] = [
+const PARTS: &[(&str, fn(Effort) -> Compared)] = &[
     ("worked cases of document 01", cases::worked),
     ("fresh blocks at every N", limits::fresh),
     ("inboxes: begin and missing", limits::inboxes),
@@ -21,6 +21,7 @@ const PARTS: [(&str, fn(Effort) -> Compared); 21] = [
     ("sums that fit and that do not", sums::around_the_limit),
     ("zero minutes", zeros::all),
     ("batches of edits", batch::all),
+    ("restores from sorted listings", restore::all),
     ("uneven trees: edits", uneven::edits),
     ("uneven trees: listings and depth", uneven::depths),
     ("same entries or not", drift::all),
@@ -76,7 +77,7 @@ fn main() -> ExitCode {
     println!("seed {}, {} times", effort.seed, effort.times);
     let (passed, mut failed) = compared(effort);
     let answers = NUMBERS.map(|number| ANSWERS[number].load(Ordering::Relaxed));
-    println!("answers by number, 0 to 16: {answers:?}");
+    println!("answers by number, 0 to 18: {answers:?}");
     if answers.contains(&0) {
         failed += 1;
         println!("FAILED: a number was never answered");

@@ -33,7 +33,7 @@ pub fn break_rule(random: &mut Random, frame: &mut Frame) {
 }
 
 /// Bytes beside the digits, and some that other readers take for digits.
-const NO_DIGITS: [u8; 16] = [0, 9, 10, 13, b' ', b'+', b'-', b'/', b':', b'@', b'A', b'F', b'`', b'g', 0xb0, 255];
+pub const NO_DIGITS: [u8; 16] = [0, 9, 10, 13, b' ', b'+', b'-', b'/', b':', b'@', b'A', b'F', b'`', b'g', 0xb0, 255];
 
 /// Up to three of the 34 digits become other bytes; gives the first place.
 pub fn bad_digits(random: &mut Random, line: &mut [u8]) -> u32 {
