@@ -1,10 +1,11 @@
--- No call brings a zero in: where no version of a block holds one, none does after any edit, any batch and any line. So a table that began fresh sends none, as demand 3 asks.
+-- No call brings a zero in: where no version of a block holds one, none does after any edit, any batch, any restore and any line. So a table that began fresh sends none, as demand 3 asks.
 use mathlib.Core.Path.{_≡_, refl, ap, sym, _∙_}
 use mathlib.Core.Logic.{_≢_}
-use Prim.Native.Nat.{ℕ, zero, suc, _-_, _<_}
+use Prim.Native.Nat.{ℕ, zero, suc, _+_, _-_, _/_, _<_, compare, Ordering, Ordering·lt, Ordering·eq, Ordering·gt}
 use mathlib.Core.Bool.{Bool, true, false}
 use mathlib.Core.Option.{Option, none, some}
 use mathlib.Core.List.{List, [], _∷_}
+use lib.ListN.{length}
 use lib.Dec.{eqb, ltb}
 use borrow.Author.Tests.{ltb-true}
 use native.Mathlib.Omega.{arith}
@@ -17,6 +18,8 @@ use Rattle.model.specs.Block.{heap, SoundBlock}
 use Rattle.model.specs.Frame.{parse}
 use Rattle.model.specs.Calls.{Answer, Versions, Edit, Edits, inserting, removing, copying, uniting, lessening}
 use Rattle.model.specs.Batch.{Record, NoZero, setAll, Batched}
+use Rattle.model.specs.Text.{entryAt, entriesFrom}
+use Rattle.model.specs.Restore.{Restore}
 use Rattle.model.specs.Link.{Step, Receive}
 use Rattle.model.specs.Replica.{NoZeroSent}
 use Rattle.model.proofs.Sorts.{ordered-sorted}
@@ -26,6 +29,7 @@ use Rattle.model.proofs.Replicas.{edited, frame-entries}
 use Rattle.model.proofs.Receiving.{Outcome, away, again, new, receive-outcome}
 use Rattle.model.proofs.Meanings.{edit-done, refused-edit-changes-nothing, insert-puts, remove-takes-out, copy-copies, clear-empties, union-merges, difference-lessens}
 use Rattle.model.proofs.Batches.{batch-done, refused-batch-changes-nothing, batch-leaves-others, batch-sets}
+use Rattle.model.proofs.Restores.{faultless-good, restore-done, refused-restore-changes-nothing, restore-leaves-others, restore-holds}
 use Rattle.model.proofs.Refusals.{Called, inserts, removes, copies, clears, unites, lessens, done-number}
 
 -- no value of a map, and of a version, is 0
@@ -149,6 +153,28 @@ no-zero-batched {b} {after} {n} dst src rs B Z v lt = at (ℕ-discrete v dst) (�
         let D = batch-done dst src rs B z in
         let src-known = D .versions .1 .0 in
         rw (d, batch-sets dst src rs B z) (all-zeroless rs _ (ordered-sorted _ (version-ordered (D .sound .sound) src src-known)) (Z src src-known) (D .no-zero))
+
+-- the entries of lines without a zero
+lines-zeroless : (t : List ℕ) (i n : ℕ) → ((j : ℕ) → j < i + n → entryAt t j .1 ≢ 0) → Zeroless (entriesFrom t i n)
+unfolding entriesFrom cut
+lines-zeroless t i zero f k e = let u : _≡_ {A = ℕ} 0 1 = cc e in omega arith
+lines-zeroless t i (suc n) f k e = go (compare k (entryAt t i .0)) refl (lines-zeroless t (suc i) n (λ j h. f j (omega arith)) k)
+  where
+    go : (o : Ordering) → compare k (entryAt t i .0) ≡ o → (find (entriesFrom t (suc i) n) k ≡ some 0 → ⊥) → ⊥
+    go Ordering·lt p ih = let u : _≡_ {A = ℕ} 0 1 = cc (rw (p, find) at e) in omega arith
+    go Ordering·eq p ih = f i (omega arith) (cc (rw (p, find) at e))
+    go Ordering·gt p ih = ih (rw (p, find) at e)
+
+-- any restore
+pub no-zero-restored : {b after : List ℕ} {n line : ℕ} (v : ℕ) (t : List ℕ) → Restore b after v t n line → ZerolessBlock b → ZerolessBlock after
+no-zero-restored {b} {after} {n} v t R Z w lt = at (ℕ-discrete w v) (ℕ-discrete n 0)
+  where
+    at : Dec (w ≡ v) → Dec (n ≡ 0) → Zeroless (entries (version (heap after) w))
+    at (no d) y = rw (restore-leaves-others v t R w lt d) (Z w lt)
+    at (yes d) (no p) = rw (refused-restore-changes-nothing v t R p) (Z w lt)
+    at (yes d) (yes z) =
+        let F = restore-done v t R z .faultless in
+        rw (d, restore-holds v t R z) (lines-zeroless t 0 (length t / 17) (λ j h. faultless-good t j (F j (omega arith)) .value))
 
 -- any line
 pub no-zero-received : (s : Step) (v : ℕ) (line : List ℕ) → SoundBlock (s .block) → v < 16 → Receive s v line → ZerolessBlock (s .block) → ZerolessBlock (s .block′)
