@@ -1,5 +1,5 @@
 -- Eight digits at once: what is done to a word is done to each of its bytes, as no sum carries from one byte to the next.
-use mathlib.Core.Path.{_≡_, refl, ap₂, _∙_}
+use mathlib.Core.Path.{_≡_, refl, ap, ap₂, _∙_}
 use Prim.Native.Nat.{ℕ, zero, suc, _+_, _*_, _/_, _%_, _^_, _≤_, _<_}
 use mathlib.Core.List.{List, [], _∷_}
 use native.Mathlib.Omega.{arith}
@@ -9,11 +9,11 @@ use Rattle.frame.specs.Alternate.{alternate}
 use Rattle.frame.proofs.Values.{digit-sum}
 
 -- the number whose bytes are given, the lowest first; one with byte c at each place of ds; the carries of n + 6; the digits
-abbrev word : List ℕ → ℕ
+abbrev pub word : List ℕ → ℕ
 word [] = 0
 word (d ∷ ds) = d + 256 * word ds
 
-abbrev each : ℕ → List ℕ → ℕ
+abbrev pub each : ℕ → List ℕ → ℕ
 each c [] = 0
 each c (d ∷ ds) = c + 256 * each c ds
 
@@ -21,11 +21,11 @@ abbrev carries : List ℕ → ℕ
 carries [] = 0
 carries (d ∷ ds) = (d + 6) / 16 + 256 * carries ds
 
-abbrev texts : List ℕ → ℕ
+abbrev pub texts : List ℕ → ℕ
 texts [] = 0
 texts (d ∷ ds) = digit d + 256 * texts ds
 
-abbrev Small : List ℕ → Type 0
+abbrev pub Small : List ℕ → Type 0
 Small [] = Unit {0}
 Small (d ∷ ds) = (d < 16) × Small ds
 
@@ -44,6 +44,10 @@ carry (d ∷ ds) (s, S) =
 text : (ds : List ℕ) → Small ds → word ds + each 48 ds + 39 * carries ds ≡ texts ds
 text [] S = refl
 text (d ∷ ds) (s, S) = omega (arith, digit-sum d s, text ds S)
+
+-- so do the sums on the whole word
+pub texts-are : (ds : List ℕ) → Small ds → word ds + each 48 ds + 39 * bitAnd ((word ds + each 6 ds) / 16) (each 1 ds) ≡ texts ds
+texts-are ds S = ap (λ k. word ds + each 48 ds + 39 * k) (carry ds S) ∙ text ds S
 
 -- the low digits of k bytes
 abbrev lows : ℕ → ℕ → ℕ

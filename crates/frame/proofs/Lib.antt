@@ -4,3 +4,4 @@ pub mod Eights
 pub mod Reading
 pub mod Writing
 pub mod Parsing
+pub mod Decoding

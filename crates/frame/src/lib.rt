@@ -1,4 +1,7 @@
 // Frame lines: 34 lower-case hexadecimal digits and a newline, written and read.
+pub mod word;
+
+use word::texts;
 ghost use mathlib.Core.Path.{_≡_};
 ghost use mathlib.Core.List.{_++_};
 ghost use Prim.Native.Nat.{_+_, _*_, _/_, _<_, _≤_};
@@ -42,7 +45,7 @@ enum Digit {
 }
 
 // What digits say: a number, or none, and where the first is that is no digit.
-pub enum Number {
+enum Number {
     Is(u32),
     Bad(u32),
 }
@@ -55,13 +58,11 @@ fn wide(x: u32) -> u64
 }
 
 // Eight digits at once, a byte each: those at even places in the low half, those at odd places in the high half, the lowest first.
-// A digit n is 48 + n, and 39 more where n + 6 carries out of its four bits, so from 10 on. Nothing is looked up.
 fn eight_digits(x: u32) -> u64
     ensures { λ r. ⌜ r ≡ alternate 4 x + 4294967296 * alternate 4 (x / 16) ⌝ }
 {
     let n = wide(x & 0x0f0f0f0f) + 4294967296 * wide((x / 16) & 0x0f0f0f0f);
-    let letters = ((n + 0x0606060606060606) / 16) & 0x0101010101010101;
-    n + 0x3030303030303030 + 39 * letters
+    texts(n)
 }
 
 // Lower case only: a line has one form, so that a frame has one line.
@@ -102,7 +103,7 @@ pub fn put_hex(out: &mut [u8], at: usize, k: usize, x: u32)
 }
 
 // The number in the k digits from `at` on. All before them are digits, so the first here that is none is the line's.
-pub fn read_hex(line: &[u8], at: usize, k: usize) -> Number
+fn read_hex(line: &[u8], at: usize, k: usize) -> Number
     requires { ⌜ (at + k ≤ length (now line)) × (at + k ≤ 34) × (k ≤ 8) × (at ≤ model.firstBad (now line)) ⌝ }
     ensures { λ r. ⌜ said r ≡ fieldRead (now (line .entry)) at k ⌝ }
 {

@@ -97,8 +97,8 @@ module _ (t : List ℕ) (i : ℕ) where
   alike : {d e : Entry} → entryOf (lineAt t i) ≡ some d → entryOf (lineAt t i) ≡ some e → d ≡ e
   alike p q = cc (sym p ∙ q)
 
-  pub line-exactly : (faultAt t i ≡ LINE) ↔ Malformed t i
-  line-exactly = (go (fault-way t i), fault-line t i)
+  pub line-means : (faultAt t i ≡ LINE) ↔ Malformed t i
+  line-means = (go (fault-way t i), fault-line t i)
     where
       go : {n : ℕ} → Way t i n → n ≡ LINE → Malformed t i
       go (malformed p) q = p
@@ -106,8 +106,8 @@ module _ (t : List ℕ) (i : ℕ) where
       go (behind e p n a) q = absurd (omega arith)
       go (fine e p n a) q = absurd (omega arith)
 
-  pub zero-exactly : (faultAt t i ≡ ZERO) ↔ Empty t i
-  zero-exactly = (go (fault-way t i), λ h. fault-zero t i (h .0) (h .1) (h .2))
+  pub zero-means : (faultAt t i ≡ ZERO) ↔ Empty t i
+  zero-means = (go (fault-way t i), λ h. fault-zero t i (h .0) (h .1) (h .2))
     where
       go : {n : ℕ} → Way t i n → n ≡ ZERO → Empty t i
       go (malformed p) q = absurd (omega arith)
@@ -115,8 +115,8 @@ module _ (t : List ℕ) (i : ℕ) where
       go (behind e p n a) q = absurd (omega arith)
       go (fine e p n a) q = absurd (omega arith)
 
-  pub order-exactly : (faultAt t i ≡ ORDER) ↔ Behind t i
-  order-exactly = (go (fault-way t i), back (fault-way t i))
+  pub order-means : (faultAt t i ≡ ORDER) ↔ Behind t i
+  order-means = (go (fault-way t i), back (fault-way t i))
     where
       go : {n : ℕ} → Way t i n → n ≡ ORDER → Behind t i
       go (malformed p) q = absurd (omega arith)
@@ -310,7 +310,7 @@ Ready b v = SoundBlock b × Versions (v ∷ [])
 abbrev pub Before : List ℕ → ℕ → Type 0
 Before t j = (j < lineCount t) × ((i : ℕ) → i < j → faultAt t i ≡ 0)
 
--- the number n and the line, exactly; the numbers of a line are 13 and more, and what they mean is said by line-exactly, zero-exactly and order-exactly
+-- the number n and the line, exactly; the numbers of a line are 13 and more, and what they mean is said by line-means, zero-means and order-means
 pub record Exactly (b : List ℕ) (v : ℕ) (t : List ℕ) (n line : ℕ) : Type 0 where
   pub shape : (n ≡ SHAPE) ↔ (Shaped b → ⊥)
   pub damaged : (n ≡ DAMAGED) ↔ (Shaped b × (SoundBlock b → ⊥))

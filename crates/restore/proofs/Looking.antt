@@ -1,8 +1,8 @@
 -- Lines are read one after another, and the first that is faulty decides: all before it are good.
 use mathlib.Core.Path.{_≡_, refl, ap, sym, _∙_}
-use mathlib.Core.Logic.{_≢_, inl, inr}
+use mathlib.Core.Logic.{_≢_}
 use Prim.Native.Nat.{ℕ, zero, suc, _+_, _-_, _*_, _/_, _%_, _≤_, _<_}
-use mathlib.Core.Option.{Option, none, some}
+use mathlib.Core.Option.{none, some}
 use mathlib.Core.List.{List}
 use lib.ListN.{length, take, drop, length-take, length-drop}
 use native.Mathlib.Omega.{arith}
@@ -13,20 +13,10 @@ use Rattle.model.specs.Text.{numbersOf, entryOf, lineAt, lineCount, entryAt}
 use Rattle.model.specs.Numbers.{ZERO, LINE, ORDER}
 use Rattle.model.specs.Restore.{faultAt}
 use Rattle.model.proofs.Texts.{Closed, entry-open, entry-closed, entry-at}
-use Rattle.model.proofs.Restores.{fault-line, fault-zero, order-exactly, good-faultless}
-use Rattle.frame.specs.Fields.{fieldRead}
+use Rattle.model.proofs.Restores.{fault-line, fault-zero, order-means, good-faultless}
 use Rattle.restore.specs.Answers.{orZeros, Judged}
 
 -- The numbers of a line.
-
--- digits of which one is none
-pub no-number : (cs : List ℕ) (at k : ℕ) {p : ℕ} → inr p ≡ fieldRead cs at k → field cs at k ≡ none
-unfolding fieldRead
-no-number cs at k {p} e = go (field cs at k) refl
-  where
-    go : (o : Option ℕ) → field cs at k ≡ o → o ≡ none
-    go none q = refl
-    go (some m) q = let z : _≡_ {A = ℕ} 0 1 = cc (rw (q, fieldRead) at e) in absurd (omega arith)
 
 module _ (cs : List ℕ) where
   -- 17 bytes that do not end in a newline
@@ -34,14 +24,14 @@ module _ (cs : List ℕ) where
   no-newline o = sym (entry-open cs o)
 
   module _ (C : Closed cs) where
-    pub no-key : field cs 0 8 ≡ none → none ≡ entryOf cs
+    pub no-key : none ≡ field cs 0 8 → none ≡ entryOf cs
     unfolding numbersOf
-    no-key e = sym (entry-closed cs C ∙ rw (e, numbersOf))
+    no-key e = sym (entry-closed cs C ∙ rw (sym e, numbersOf))
 
     module _ {key : ℕ} (k : some key ≡ field cs 0 8) where
-      pub no-value : field cs 8 8 ≡ none → none ≡ entryOf cs
+      pub no-value : none ≡ field cs 8 8 → none ≡ entryOf cs
       unfolding numbersOf
-      no-value e = sym (entry-closed cs C ∙ rw (sym k, numbersOf) (rw e))
+      no-value e = sym (entry-closed cs C ∙ rw (sym k, numbersOf) (rw (sym e)))
 
       pub both-numbers : {value : ℕ} → some value ≡ field cs 8 8 → some (key, value) ≡ entryOf cs
       unfolding numbersOf
@@ -97,7 +87,7 @@ module _ {t : List ℕ} {i low : ℕ} (L : Looked t i low) where
           go (suc j) p =
               let q : i - 1 ≡ j = omega arith in
               let least = L .least ∙ ap (lowest t) p in
-              faulty ORDER (omega arith) (order-exactly t i .1 ((k, v), sym e, ne, omega arith, rw q (omega (arith, least)))) (λ z. omega arith)
+              faulty ORDER (omega arith) (order-means t i .1 ((k, v), sym e, ne, omega arith, rw q (omega (arith, least)))) (λ z. omega arith)
 
       above-last : low ≤ k → 0 < i → entryAt t (i - 1) .0 < k
       unfolding lowest

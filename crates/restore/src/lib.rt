@@ -4,8 +4,8 @@ use block::ends::settle;
 use block::long;
 use block::make;
 use block::makes_from;
-use frame::Number;
-use frame::read_hex;
+use frame::word::Eight;
+use frame::word::read_eight;
 use table::checks::admit;
 ghost use mathlib.Core.Path.{_≡_};
 ghost use mathlib.Core.List.{[]};
@@ -50,10 +50,10 @@ fn read_line(line: &[u8]) -> Line
     if line[16] != 10 {
         return Line::Malformed;
     }
-    let Number::Is(key) = read_hex(line, 0, 8) else {
+    let Eight::Is(key) = read_eight(line, 0) else {
         return Line::Malformed;
     };
-    let Number::Is(value) = read_hex(line, 8, 8) else {
+    let Eight::Is(value) = read_eight(line, 8) else {
         return Line::Malformed;
     };
     Line::Is(Entry { key, value })
