@@ -7,7 +7,6 @@ use oracle::frame::{Frame, INBOX};
 use oracle::ledger::{self, Op};
 use oracle::original::{self, Map};
 use oracle::plain;
-use oracle::restore;
 use oracle::rules::{Supply, Tree};
 use oracle::random::Random;
 use oracle::sizes;
@@ -367,23 +366,27 @@ fn questions(n: usize, rounds: usize) {
     }
 }
 
-/// A restore into an empty version, beside the same audit in Rust and the original's own inserts in that order; the original reads no text.
-fn restores(n: usize, rounds: usize) {
-    println!("\n{:42} {:>6} {:>13} {:>13}", format!("N = {n}, restores"), "ratio", "exported, ns", "inserts, ns");
-    let start = Table::fresh(n).words();
-    for (name, count) in [("restore of 100 lines", 100), ("restore of 2,000 lines", 2000)] {
-        let entries: Vec<restore::Entry> = (0..count).map(|key| (2 * key, key + 1)).collect();
-        let mut text = restore::lines(&entries);
-        let (mut exported, mut own) = (u128::MAX, u128::MAX);
+/// Lines of ascending keys and of values in no order.
+fn listed(count: u32, seed: u64) -> Vec<u8> {
+    let mut random = Random::new(seed);
+    let line = |i: u32| format!("{:08x}{:08x}\n", 2_000_003 * i, random.next() as u32 | 1);
+    (0..count).map(line).collect::<String>().into_bytes()
+}
+
+/// A version restored from lines, beside two audits of a block that holds as many entries.
+fn restoring(n: usize, rounds: usize) {
+    println!("\n{:42} {:>6} {:>13} {:>13}", format!("N = {n}, restore"), "ratio", "restore, ns", "2 audits, ns");
+    let size = Call::Size { version: 0 };
+    for (name, count, start) in [("100 lines into an empty version", 100, Table::fresh(n)), ("2,000 lines into an empty version", 2000, Table::fresh(n)), ("2,000 lines over 2,000 entries", 2000, entries(n, 2000, 0))] {
+        let (start, audited, mut text) = (start.words(), entries(n, count, 0).words(), listed(count, 112));
+        let (mut restored, mut audits, mut reply) = (u128::MAX, u128::MAX, size.blank());
         for _ in 0..rounds {
-            let (mut block, mut map) = (start.clone(), Map::new());
-            exported = exported.min(nanoseconds(|| assert_eq!(exports::restore(black_box(&mut block), 0, &mut text), (0, 0))));
-            own = own.min(nanoseconds(|| {
-                assert_eq!(sizes::check(black_box(&start)), 0);
-                entries.iter().for_each(|&(key, value)| assert_eq!(black_box(&mut map).insert(key, value), None));
-            }));
+            let mut block = start.clone();
+            restored = restored.min(nanoseconds(|| assert_eq!(exports::restore(black_box(&mut block), 0, &mut text), (0, 0))));
+            let mut block = audited.clone();
+            audits = audits.min(2 * nanoseconds(|| exports::run_into(black_box(&mut block), &mut [], &size, &mut reply)));
         }
-        println!("{name:42} {:6.2} {exported:13} {own:13}", exported as f64 / own as f64);
+        println!("{name:42} {:6.2} {restored:13} {audits:13}", restored as f64 / audits as f64);
     }
 }
 
@@ -436,7 +439,7 @@ fn main() {
     }
     operations(4096, rounds);
     questions(4096, rounds);
-    restores(4096, rounds);
+    restoring(4096, rounds);
     reading_lines(rounds);
     [2048, 4096].iter().for_each(|&n| bad_line(n, rounds));
 }
