@@ -1,4 +1,5 @@
--- Eight digits read at once: the sums do to each byte of the word what they would do to it alone, and bytes are digits exactly where they are the bytes of what they would stand for.
+-- Eight digits read at once: the sums do to each byte of the word what they would do to it alone,
+-- and bytes are digits exactly where they are the bytes of what they would stand for.
 use mathlib.Core.Path.{_≡_, refl, ap, ap₂, sym, subst, _∙_}
 use mathlib.Core.Logic.{_≢_}
 use Prim.Native.Nat.{ℕ, zero, suc, _+_, _-_, _*_, _/_, _%_, _^_, _≤_, _<_}
@@ -241,38 +242,47 @@ in-word d0 d1 d2 d3 d4 d5 d6 d7 = omega arith
 
 -- Eight bytes, high to low as a line has them.
 
-module _ (c7 c6 c5 c4 c3 c2 c1 c0 : ℕ) (B : Bytes (c7 ∷ c6 ∷ c5 ∷ c4 ∷ c3 ∷ c2 ∷ c1 ∷ c0 ∷ [])) where
-  lows : Bytes (c0 ∷ c1 ∷ c2 ∷ c3 ∷ c4 ∷ c5 ∷ c6 ∷ c7 ∷ [])
-  lows = (B .1 .1 .1 .1 .1 .1 .1 .0, (B .1 .1 .1 .1 .1 .1 .0, (B .1 .1 .1 .1 .1 .0, (B .1 .1 .1 .1 .0, (B .1 .1 .1 .0, (B .1 .1 .0, (B .1 .0, (B .0, tt))))))))
+module _ (c7 c6 c5 c4 c3 c2 c1 c0 : ℕ) where
+  abbrev low : List ℕ
+  low = c0 ∷ c1 ∷ c2 ∷ c3 ∷ c4 ∷ c5 ∷ c6 ∷ c7 ∷ []
 
-  is-word : highFirst 0 (c7 ∷ c6 ∷ c5 ∷ c4 ∷ c3 ∷ c2 ∷ c1 ∷ c0 ∷ []) ≡ word (c0 ∷ c1 ∷ c2 ∷ c3 ∷ c4 ∷ c5 ∷ c6 ∷ c7 ∷ [])
+  abbrev high : List ℕ
+  high = c7 ∷ c6 ∷ c5 ∷ c4 ∷ c3 ∷ c2 ∷ c1 ∷ c0 ∷ []
+
+  turned : Digits low → Digits high
+  turned D = (D .1 .1 .1 .1 .1 .1 .1 .0, (D .1 .1 .1 .1 .1 .1 .0, (D .1 .1 .1 .1 .1 .0, (D .1 .1 .1 .1 .0, (D .1 .1 .1 .0, (D .1 .1 .0, (D .1 .0, (D .0, tt))))))))
+
+  back : Digits high → Digits low
+  back D = (D .1 .1 .1 .1 .1 .1 .1 .0, (D .1 .1 .1 .1 .1 .1 .0, (D .1 .1 .1 .1 .1 .0, (D .1 .1 .1 .1 .0, (D .1 .1 .1 .0, (D .1 .1 .0, (D .1 .0, (D .0, tt))))))))
+
+  is-word : highFirst 0 high ≡ word low
   unfolding highFirst
   is-word = omega arith
 
-  values-are : valuesOf (highFirst 0 (c7 ∷ c6 ∷ c5 ∷ c4 ∷ c3 ∷ c2 ∷ c1 ∷ c0 ∷ [])) ≡ word (guesses (c0 ∷ c1 ∷ c2 ∷ c3 ∷ c4 ∷ c5 ∷ c6 ∷ c7 ∷ []))
-  values-are = ap valuesOf is-word ∙ ap (λ k. bitAnd k 1085102592571150095) (fours (c0 ∷ c1 ∷ c2 ∷ c3 ∷ c4 ∷ c5 ∷ c6 ∷ c7 ∷ []) lows) ∙ cut (c0 ∷ c1 ∷ c2 ∷ c3 ∷ c4 ∷ c5 ∷ c6 ∷ c7 ∷ [])
+  module _ (B : Bytes high) where
+    lows : Bytes low
+    lows = (B .1 .1 .1 .1 .1 .1 .1 .0, (B .1 .1 .1 .1 .1 .1 .0, (B .1 .1 .1 .1 .1 .0, (B .1 .1 .1 .1 .0, (B .1 .1 .1 .0, (B .1 .1 .0, (B .1 .0, (B .0, tt))))))))
 
-  texts-of : textsOf (valuesOf (highFirst 0 (c7 ∷ c6 ∷ c5 ∷ c4 ∷ c3 ∷ c2 ∷ c1 ∷ c0 ∷ []))) ≡ texts (guesses (c0 ∷ c1 ∷ c2 ∷ c3 ∷ c4 ∷ c5 ∷ c6 ∷ c7 ∷ []))
-  texts-of = ap textsOf values-are ∙ texts-are (guesses (c0 ∷ c1 ∷ c2 ∷ c3 ∷ c4 ∷ c5 ∷ c6 ∷ c7 ∷ [])) (small-guesses (c0 ∷ c1 ∷ c2 ∷ c3 ∷ c4 ∷ c5 ∷ c6 ∷ c7 ∷ []))
+    values-are : valuesOf (highFirst 0 high) ≡ word (guesses low)
+    values-are = ap valuesOf is-word ∙ ap (λ k. bitAnd k 1085102592571150095) (fours low lows) ∙ cut low
 
-  turned : Digits (c0 ∷ c1 ∷ c2 ∷ c3 ∷ c4 ∷ c5 ∷ c6 ∷ c7 ∷ []) → Digits (c7 ∷ c6 ∷ c5 ∷ c4 ∷ c3 ∷ c2 ∷ c1 ∷ c0 ∷ [])
-  turned D = (D .1 .1 .1 .1 .1 .1 .1 .0, (D .1 .1 .1 .1 .1 .1 .0, (D .1 .1 .1 .1 .1 .0, (D .1 .1 .1 .1 .0, (D .1 .1 .1 .0, (D .1 .1 .0, (D .1 .0, (D .0, tt))))))))
+    texts-of : textsOf (valuesOf (highFirst 0 high)) ≡ texts (guesses low)
+    texts-of = ap textsOf values-are ∙ texts-are (guesses low) (small-guesses low)
 
-  back : Digits (c7 ∷ c6 ∷ c5 ∷ c4 ∷ c3 ∷ c2 ∷ c1 ∷ c0 ∷ []) → Digits (c0 ∷ c1 ∷ c2 ∷ c3 ∷ c4 ∷ c5 ∷ c6 ∷ c7 ∷ [])
-  back D = (D .1 .1 .1 .1 .1 .1 .1 .0, (D .1 .1 .1 .1 .1 .1 .0, (D .1 .1 .1 .1 .1 .0, (D .1 .1 .1 .1 .0, (D .1 .1 .1 .0, (D .1 .1 .0, (D .1 .0, (D .0, tt))))))))
+    eight-good : textsOf (valuesOf (highFirst 0 high)) ≡ highFirst 0 high → some (packedOf (valuesOf (highFirst 0 high))) ≡ number 0 high
+    unfolding nums
+    eight-good e =
+        let D = same-texts low lows (sym texts-of ∙ e ∙ is-word) in
+        let v = values-are ∙ in-word (guess c0) (guess c1) (guess c2) (guess c3) (guess c4) (guess c5) (guess c6) (guess c7) in
+        let p = packed-is (guess c0) (guess c1) (guess c2) (guess c3) (guess c4) (guess c5) (guess c6) (guess c7) (omega arith) (omega arith) (omega arith) (omega arith) (omega arith) (omega arith) (omega arith) (omega arith) ∙ horner (guess c0) (guess c1) (guess c2) (guess c3) (guess c4) (guess c5) (guess c6) (guess c7) in
+        sym (number-is 0 high (turned D) ∙ ap some (sym (ap packedOf v ∙ p)))
 
-  eight-good : textsOf (valuesOf (highFirst 0 (c7 ∷ c6 ∷ c5 ∷ c4 ∷ c3 ∷ c2 ∷ c1 ∷ c0 ∷ []))) ≡ highFirst 0 (c7 ∷ c6 ∷ c5 ∷ c4 ∷ c3 ∷ c2 ∷ c1 ∷ c0 ∷ []) → some (packedOf (valuesOf (highFirst 0 (c7 ∷ c6 ∷ c5 ∷ c4 ∷ c3 ∷ c2 ∷ c1 ∷ c0 ∷ [])))) ≡ number 0 (c7 ∷ c6 ∷ c5 ∷ c4 ∷ c3 ∷ c2 ∷ c1 ∷ c0 ∷ [])
-  unfolding nums
-  eight-good e =
-      let D = same-texts (c0 ∷ c1 ∷ c2 ∷ c3 ∷ c4 ∷ c5 ∷ c6 ∷ c7 ∷ []) lows (sym texts-of ∙ e ∙ is-word) in
-      sym (number-is 0 (c7 ∷ c6 ∷ c5 ∷ c4 ∷ c3 ∷ c2 ∷ c1 ∷ c0 ∷ []) (turned D) ∙ ap some (sym (ap packedOf (values-are ∙ in-word (guess c0) (guess c1) (guess c2) (guess c3) (guess c4) (guess c5) (guess c6) (guess c7)) ∙ packed-is (guess c0) (guess c1) (guess c2) (guess c3) (guess c4) (guess c5) (guess c6) (guess c7) (omega arith) (omega arith) (omega arith) (omega arith) (omega arith) (omega arith) (omega arith) (omega arith) ∙ horner (guess c0) (guess c1) (guess c2) (guess c3) (guess c4) (guess c5) (guess c6) (guess c7))))
-
-  eight-bad : textsOf (valuesOf (highFirst 0 (c7 ∷ c6 ∷ c5 ∷ c4 ∷ c3 ∷ c2 ∷ c1 ∷ c0 ∷ []))) ≢ highFirst 0 (c7 ∷ c6 ∷ c5 ∷ c4 ∷ c3 ∷ c2 ∷ c1 ∷ c0 ∷ []) → none ≡ number 0 (c7 ∷ c6 ∷ c5 ∷ c4 ∷ c3 ∷ c2 ∷ c1 ∷ c0 ∷ [])
-  eight-bad ne = go (number 0 (c7 ∷ c6 ∷ c5 ∷ c4 ∷ c3 ∷ c2 ∷ c1 ∷ c0 ∷ [])) refl
-    where
-      go : (o : Option ℕ) → number 0 (c7 ∷ c6 ∷ c5 ∷ c4 ∷ c3 ∷ c2 ∷ c1 ∷ c0 ∷ []) ≡ o → none ≡ o
-      go none q = refl
-      go (some m) q = absurd (ne (texts-of ∙ texts-same (c0 ∷ c1 ∷ c2 ∷ c3 ∷ c4 ∷ c5 ∷ c6 ∷ c7 ∷ []) (back (number-digits 0 m (c7 ∷ c6 ∷ c5 ∷ c4 ∷ c3 ∷ c2 ∷ c1 ∷ c0 ∷ []) q)) ∙ sym is-word))
+    eight-bad : textsOf (valuesOf (highFirst 0 high)) ≢ highFirst 0 high → none ≡ number 0 high
+    eight-bad ne = go (number 0 high) refl
+      where
+        go : (o : Option ℕ) → number 0 high ≡ o → none ≡ o
+        go none q = refl
+        go (some m) q = absurd (ne (texts-of ∙ texts-same low (back (number-digits 0 m high q)) ∙ sym is-word))
 
 -- the same of any eight bytes
 bytes-of : (cs : List ℕ) → ((i : ℕ) → getD cs i 0 < 256) → Bytes cs
@@ -304,7 +314,8 @@ abbrev Bad : List ℕ → Type 0
 Bad xs = Bytes xs → textsOf (valuesOf (highFirst 0 xs)) ≢ highFirst 0 xs → none ≡ number 0 xs
 
 -- the eight bytes from `at` on are x, n their digits if they are any, t the bytes of those
-module _ (line : List ℕ) (at : ℕ) (inside : at + 8 ≤ length line) (f : (i : ℕ) → getD line i 0 < 256) {x n t : ℕ} (is : x ≡ highFirst 0 (take 8 (drop at line))) (v : n ≡ valuesOf x) (w : t ≡ textsOf n) where
+module _ (line : List ℕ) (at : ℕ) (inside : at + 8 ≤ length line) (f : (i : ℕ) → getD line i 0 < 256)
+    {x n t : ℕ} (is : x ≡ highFirst 0 (take 8 (drop at line))) (v : n ≡ valuesOf x) (w : t ≡ textsOf n) where
   long : length (take 8 (drop at line)) ≡ 8
   long = length-take-le 8 (drop at line) (omega (arith, length-drop at line))
 

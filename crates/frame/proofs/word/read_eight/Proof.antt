@@ -18,7 +18,8 @@ returns : tie.Need-returns
 returns c =
     let b = c .before .before .before in
     let s = b .before .before in
-    says-none (s .args .line .now) (s .args .at) (s .pre) (λ i. omega (arith, b .before .shared-slice-known .given i)) (b .bytes-at .ensures) (c .before .before .values .ensures .0) (c .before .texts .ensures) (c .if1 .taken)
+    says-none (s .args .line .now) (s .args .at) (s .pre) (λ i. omega (arith, b .before .shared-slice-known .given i)) (b .bytes-at .ensures)
+    (c .before .before .values .ensures .0) (c .before .texts .ensures) (c .if1 .taken)
 
 packed-requires : tie.Need-packed-requires
 packed-requires c κs = search needs
@@ -28,7 +29,8 @@ returns-2 c =
     let e = c .before in
     let b = e .before .before .before in
     let s = b .before .before in
-    says-eight (s .args .line .now) (s .args .at) (s .pre) (λ i. omega (arith, b .before .shared-slice-known .given i)) (b .bytes-at .ensures) (e .before .before .values .ensures .0) (e .before .texts .ensures) (e .if1 .left) (c .packed .ensures)
+    says-eight (s .args .line .now) (s .args .at) (s .pre) (λ i. omega (arith, b .before .shared-slice-known .given i)) (b .bytes-at .ensures)
+    (e .before .before .values .ensures .0) (e .before .texts .ensures) (e .if1 .left) (c .packed .ensures)
 
 pub read-eight-spec : {M : Type 1} → statement M
 read-eight-spec =
