@@ -15,6 +15,7 @@ ghost use Rattle.model.specs.Text.{entryOf, entriesOf};
 ghost use Rattle.model.specs.Moves.{Holding};
 ghost use Rattle.model.specs.Restore.{built, Restore};
 ghost use Rattle.block.specs.Outcome.{Outcome};
+ghost use Rattle.block.specs.Low.{Low};
 ghost use Rattle.restore.specs.Answers.{said, orZeros, pair, Judged};
 
 const NO_ROOM: u32 = 5;
@@ -70,12 +71,12 @@ fn entry_of(line: &[u8]) -> Entry
     }
 }
 
-// The first faulty line and what is wrong with it, or 0 and 0. `low` is the least key that the next line may have: one above the last.
+// The first faulty line and what is wrong with it, or 0 and 0. `least` is the least key that the next line may have: one above the last.
 fn first_fault(text: &[u8]) -> Answer
     ensures { λ r. ⌜ Judged (now (text .entry)) (r .number) (r .line) ⌝ }
 {
     let n = text.len() / 17;
-    let mut low: u64 = 0;
+    let mut least: u64 = 0;
     let mut i: usize = 0;
     while i < n {
         let at = 17 * i;
@@ -93,13 +94,13 @@ fn first_fault(text: &[u8]) -> Answer
             };
         }
         let key = long(e.key);
-        if key < low {
+        if key < least {
             return Answer {
                 number: ORDER,
                 line: i as u64,
             };
         }
-        low = key + 1;
+        least = key + 1;
         i += 1;
     }
     if text.len() % 17 != 0 {
@@ -112,9 +113,9 @@ fn first_fault(text: &[u8]) -> Answer
 }
 
 // The tree of the lines: the middle line at the root, each side from its own part of the text, the left side first.
-fn build(b: &mut [u32], text: &[u8]) -> Made
-    requires { ⌜ Holding (now b) [] × (length (now text) ≤ 69632) ⌝ }
-    ensures { λ r. ⌜ ((fuel : ℕ) → length (entriesOf (now (text .entry))) ≤ fuel → Outcome (now (b .entry)) (now (b .exit)) [] r (built fuel (entriesOf (now (text .entry))))) ⌝ }
+fn build(b: &mut [u32], low: &mut u32, text: &[u8]) -> Made
+    requires { ⌜ (Holding (now b) [] × (length (now text) ≤ 69632)) × Low (now b) (now low) ⌝ }
+    ensures { λ r. ⌜ ((fuel : ℕ) → length (entriesOf (now (text .entry))) ≤ fuel → Outcome (now (b .entry)) (now (b .exit)) [] r (built fuel (entriesOf (now (text .entry))))) × Low (now (b .exit)) (now (low .exit)) ⌝ }
 {
     let n = text.len() / 17;
     if n == 0 {
@@ -123,14 +124,14 @@ fn build(b: &mut [u32], text: &[u8]) -> Made
     let m = n / 2;
     let mid = 17 * m;
     let next = mid + 17;
-    let Made::At(left) = build(&mut *b, &text[..mid]) else {
+    let Made::At(left) = build(&mut *b, low, &text[..mid]) else {
         return Made::Full;
     };
-    let Made::At(right) = build(&mut *b, &text[next..]) else {
+    let Made::At(right) = build(&mut *b, low, &text[next..]) else {
         return Made::Full;
     };
     let e = entry_of(&text[mid..next]);
-    make(b, e.key, e.value, left, right)
+    make(b, low, e.key, e.value, left, right)
 }
 
 // Version v becomes the tree of the lines; its old tree is given up at the end. No block has room for more than 4,096 lines, so a longer text is not built.
@@ -152,7 +153,8 @@ pub fn restore(b: &mut [u32], v: u32, text: &[u8]) -> Answer
         };
     }
     let from = makes_from(b);
-    let made = build(&mut *b, text);
+    let mut low = from;
+    let made = build(&mut *b, &mut low, text);
     let number = settle(b, v, from, made);
     Answer {
         number: number,

@@ -23,16 +23,16 @@ use Rattle.restore.proofs.+build.Lts-build as build-lts
 use Rattle.restore.proofs.+build.{statement}
 use Rattle.restore.proofs.+build.Tie.{close}
 
-abbrev μ-build : Measures 2 build-kinds.ps ℕ
-μ-build κs a = length (a .1 .0 .now)
+abbrev μ-build : Measures 3 build-kinds.ps ℕ
+μ-build κs a = length (a .1 .1 .0 .now)
 
-abbrev build-at : ℕ → In 2 build-kinds.ps
-build-at t = and 2 build-kinds.ps (is 2 build-kinds.ps μ-build t) build.Pre
+abbrev build-at : ℕ → In 3 build-kinds.ps
+build-at t = and 3 build-kinds.ps (is 3 build-kinds.ps μ-build t) build.Pre
 
-abbrev build-below : ℕ → In 2 build-kinds.ps
-build-below t = and 2 build-kinds.ps (falls 2 build-kinds.ps _<_ μ-build t) build.Pre
+abbrev build-below : ℕ → In 3 build-kinds.ps
+build-below t = and 3 build-kinds.ps (falls 3 build-kinds.ps _<_ μ-build t) build.Pre
 
-abbrev calls : (t : ℕ) → In 2 build-kinds.ps × Out 2 build-kinds.ps build-kinds.r × In 1 entry-of-kinds.ps × Out 1 entry-of-kinds.ps entry-of-kinds.r × In 1 make-kinds.ps × Out 1 make-kinds.ps make-kinds.r
+abbrev calls : (t : ℕ) → In 3 build-kinds.ps × Out 3 build-kinds.ps build-kinds.r × In 1 entry-of-kinds.ps × Out 1 entry-of-kinds.ps entry-of-kinds.r × In 2 make-kinds.ps × Out 2 make-kinds.ps make-kinds.r
 calls t = (build-below t, build.Post, entry-of-reads.Asked, entry-of-reads.Learnt, make-reads.Asked, make-reads.Learnt)
 
 abbrev start : (t : ℕ) → build-lts.Else1 (calls t) (build-at t) build.Post → build-lts.Start (calls t) (build-at t) build.Post
@@ -40,25 +40,25 @@ start t c = c .before .before .before
 
 -- what a level begins with
 begun : (t : ℕ) (c : build-lts.Else1 (calls t) (build-at t) build.Post) → let a = start t c .args in Begun (a .b .now) (a .text .now)
-begun t c = record { holds = start t c .pre .1 .0; few = start t c .pre .1 .1; some = omega (arith, c .if1 .left) }
+begun t c = record { holds = start t c .pre .1 .0 .0; few = start t c .pre .1 .0 .1; some = omega (arith, c .if1 .left) }
 
 -- from the place where the left side is known to the one where there are lines, and from the right side to the left
 abbrev to-else : (t : ℕ) → build-lts.After-left (calls t) (build-at t) build.Post → build-lts.Else1 (calls t) (build-at t) build.Post
-to-else t c = c .before .before .before .before .before .before .before
+to-else t c = c .before .before .before .before .before .before .before .before
 
 abbrev to-left : (t : ℕ) → build-lts.After-right (calls t) (build-at t) build.Post → build-lts.After-left (calls t) (build-at t) build.Post
-to-left t c = c .before .before .before .before .before .before .before .before
+to-left t c = c .before .before .before .before .before .before .before .before .before
 
 left-side : (t : ℕ) (c : build-lts.After-left (calls t) (build-at t) build.Post) → let a = start t (to-else t c) .args in Builds (a .b .now) (c .before .before .before .before .build .last .0) (entriesOf (first (a .text .now))) (At (c .left .given .0 .0))
-left-side t c fuel h = told _ _ (c .left .given .1) (c .before .before .before .before .build .ensures fuel h)
+left-side t c fuel h = told _ _ (c .left .given .1) (c .before .before .before .before .build .ensures .0 fuel h)
 
 right-side : (t : ℕ) (c : build-lts.After-right (calls t) (build-at t) build.Post) → let l = to-left t c in Builds (l .before .before .before .before .build .last .0) (c .before .before .before .before .build2 .last .0) (entriesOf (second (start t (to-else t l) .args .text .now))) (At (c .right .given .0 .0))
-right-side t c fuel h = told _ _ (c .right .given .1) (c .before .before .before .before .build2 .ensures fuel h)
+right-side t c fuel h = told _ _ (c .right .given .1) (c .before .before .before .before .build2 .ensures .0 fuel h)
 
 build-returns : (t : ℕ) → build-lts.Need-returns (calls t) (build-at t) build.Post
 build-returns t c =
     let s = c .before .before .before in
-    builds-none _ _ (s .pre .1 .0) (entries-length (s .args .text .now) 0 (length (s .args .text .now) / 17) ∙ c .if1 .taken)
+    (builds-none _ _ (s .pre .1 .0 .0) (entries-length (s .args .text .now) 0 (length (s .args .text .now) / 17) ∙ c .if1 .taken), s .pre .1 .1)
 
 build-mul-mid : (t : ℕ) → build-lts.Need-mul-mid (calls t) (build-at t) build.Post
 build-mul-mid t c = omega arith
@@ -67,14 +67,14 @@ build-add-next : (t : ℕ) → build-lts.Need-add-next (calls t) (build-at t) bu
 build-add-next t c = omega arith
 
 build-slice-aggregate-build : (t : ℕ) → build-lts.Need-slice-aggregate-build (calls t) (build-at t) build.Post
-build-slice-aggregate-build t c = let e = c .before .before in sym (first-length (start t e .args .text .now) (begun t e .some))
+build-slice-aggregate-build t c = let e = c .before .before .before in sym (first-length (start t e .args .text .now) (begun t e .some))
 
 build-build-requires : (t : ℕ) → build-lts.Need-build-requires (calls t) (build-at t) build.Post
 build-build-requires t c κs =
-    let e = c .before .before in
+    let e = c .before .before .before in
     let G = begun t e in
     let l = first-length (start t e .args .text .now) (G .some) in
-    (omega (arith, l, start t e .pre .0, G .some), (G .holds, omega (arith, l, G .few)))
+    (omega (arith, l, start t e .pre .0, G .some), ((G .holds, omega (arith, l, G .few)), start t e .pre .1 .1))
 
 build-enum-known-left : (t : ℕ) → build-lts.Need-enum-known-left (calls t) (build-at t) build.Post
 build-enum-known-left t c = search needs
@@ -87,8 +87,8 @@ build-same-length t c = search needs
 
 build-returns-2 : (t : ℕ) → build-lts.Need-returns-2 (calls t) (build-at t) build.Post
 build-returns-2 t c =
-    let e = c .before .before .before .before .before .before .before in
-    no-first (begun t e) (λ fuel h. told _ _ (c .enum-told .given .1) (c .before .before .before .before .build .ensures fuel h))
+    let e = c .before .before .before .before .before .before .before .before in
+    (no-first (begun t e) (λ fuel h. told _ _ (c .enum-told .given .1) (c .before .before .before .before .build .ensures .0 fuel h)), c .before .before .before .before .build .ensures .1)
 
 build-sub-build : (t : ℕ) → build-lts.Need-sub-build (calls t) (build-at t) build.Post
 build-sub-build t c = omega arith
@@ -101,11 +101,11 @@ build-part-build-end t c = omega arith
 
 build-build-requires-2 : (t : ℕ) → build-lts.Need-build-requires-2 (calls t) (build-at t) build.Post
 build-build-requires-2 t c κs =
-    let a = c .before .before .before in
+    let a = c .before .before .before .before in
     let e = to-else t a in
     let G = begun t e in
     let l = second-length (start t e .args .text .now) (G .some) in
-    (omega (arith, l, start t e .pre .0, G .some), (first-holds G (left-side t a), omega (arith, l, G .few)))
+    (omega (arith, l, start t e .pre .0, G .some), ((first-holds G (left-side t a), omega (arith, l, G .few)), a .before .before .before .before .build .ensures .1))
 
 build-enum-known-right : (t : ℕ) → build-lts.Need-enum-known-right (calls t) (build-at t) build.Post
 build-enum-known-right t c = search needs
@@ -118,8 +118,8 @@ build-same-length-2 t c = search needs
 
 build-returns-3 : (t : ℕ) → build-lts.Need-returns-3 (calls t) (build-at t) build.Post
 build-returns-3 t c =
-    let a = c .before .before .before .before .before .before .before .before in
-    no-second (begun t (to-else t a)) (left-side t a) (λ fuel h. told _ _ (c .enum-told2 .given .1) (c .before .before .before .before .build2 .ensures fuel h))
+    let a = c .before .before .before .before .before .before .before .before .before in
+    (no-second (begun t (to-else t a)) (left-side t a) (λ fuel h. told _ _ (c .enum-told2 .given .1) (c .before .before .before .before .build2 .ensures .0 fuel h)), c .before .before .before .before .build2 .ensures .1)
 
 build-sub-entry-of : (t : ℕ) → build-lts.Need-sub-entry-of (calls t) (build-at t) build.Post
 build-sub-entry-of t c = omega arith
@@ -137,21 +137,21 @@ build-entry-of-requires t c κs =
 
 build-make-requires : (t : ℕ) → build-lts.Need-make-requires (calls t) (build-at t) build.Post
 build-make-requires t c κs =
-    let r = c .before .before .before .before in
+    let r = c .before .before .before .before .before in
     let l = to-left t r in
-    both-ask (begun t (to-else t l)) (left-side t l) (right-side t r)
+    (both-ask (begun t (to-else t l)) (left-side t l) (right-side t r), r .before .before .before .before .build2 .ensures .1)
 
 build-same-length-3 : (t : ℕ) → build-lts.Need-same-length-3 (calls t) (build-at t) build.Post
 build-same-length-3 t c = search needs
 
 build-returns-4 : (t : ℕ) → build-lts.Need-returns-4 (calls t) (build-at t) build.Post
 build-returns-4 t c =
-    let r = c .before .before .before .before .before .before .before in
+    let r = c .before .before .before .before .before .before .before .before in
     let l = to-left t r in
     let text = start t (to-else t l) .args .text .now in
-    let e = c .before .before .before .before .entry-of in
+    let e = c .before .before .before .before .before .entry-of in
     let is = e .ensures ∙ piece-entry text (half text) (17 * half text) (17 * half text + 17) refl refl in
-    both-made (begun t (to-else t l)) (left-side t l) (right-side t r) (pair (e .result)) is (c .before .before .make .ensures)
+    (both-made (begun t (to-else t l)) (left-side t l) (right-side t r) (pair (e .result)) is (c .before .before .make .ensures .0), c .before .before .make .ensures .1)
 
 pub +build-spec : {M : Type 1} → statement M
 +build-spec = close μ-build λ t. build-lts.spec (calls t)

@@ -11,10 +11,10 @@ use Rattle.restore.proofs.first_fault.Statement.{statement}
 use Rattle.restore.proofs.first_fault.Tie as tie
 
 abbrev Inv-loop : tie.InvT-loop
-Inv-loop text n low₀ i₀ low i = Looked text i low
+Inv-loop text n least₀ i₀ least i = Looked text i least
 
 abbrev μ-loop : tie.MeasureT-loop
-μ-loop text n low₀ i₀ low i = n - i
+μ-loop text n least₀ i₀ least i = n - i
 
 abbrev start : tie.In-loop Inv-loop μ-loop → tie.Start Inv-loop μ-loop
 start c = c .before .before .before
@@ -82,8 +82,8 @@ returns-3 c =
     let l = e .before .before .before .before in
     finds-order (l .before .loop .inv) (l .loop-test .taken) (entry e) (v .if1 .left) (omega (arith, c .before .long .ensures .0, c .if2 .taken))
 
-add-low : tie.Need-add-low Inv-loop μ-loop
-add-low c = omega (arith, c .before .long .ensures .1)
+add-least : tie.Need-add-least Inv-loop μ-loop
+add-least c = omega (arith, c .before .long .ensures .1)
 
 add-i : tie.Need-add-i Inv-loop μ-loop
 add-i c = omega (arith, c .before .before .before .before .before .before .before .before .before .loop-test .taken)
@@ -124,7 +124,7 @@ first-fault-spec =
     returns-2
     long-requires
     returns-3
-    add-low
+    add-least
     add-i
     loop-less
     loop-again

@@ -19,13 +19,13 @@ faultless c = c .before .before .first-fault .ensures .fine (c .if2 .left) .1
 
 -- from the tree that was built to where the lines are known to be good, and to where the block is
 abbrev to-else : tie.After-build → tie.Else2
-to-else c = c .before .before .before .before .before
+to-else c = c .before .before .before .before .before .before
 
 abbrev entry-of : tie.After-build → tie.Else1
 entry-of c = to-else c .before .before .before
 
-built : (c : tie.After-build) → let a = start (entry-of c) .args in Run (a .b .now) (c .build .last .0) (c .before .before .makes-from .result) (c .build .result) (restored (a .text .now))
-built c = ran (admitted (entry-of c)) _ (faultless (to-else c)) (c .before .before .makes-from .ensures) (c .build .ensures)
+built : (c : tie.After-build) → let a = start (entry-of c) .args in Run (a .b .now) (c .build .last .0) (c .before .before .before .makes-from .result) (c .build .result) (restored (a .text .now))
+built c = ran (admitted (entry-of c)) _ (faultless (to-else c)) (c .before .before .before .makes-from .ensures) (c .build .ensures .0)
 
 admit-requires : tie.Need-admit-requires
 admit-requires c κs = search needs
@@ -55,7 +55,8 @@ makes-from-requires : tie.Need-makes-from-requires
 makes-from-requires c κs = admitted (c .before .before .before .before .before) .sound .shaped
 
 build-requires : tie.Need-build-requires
-build-requires c κs = (begins (admitted (c .before .before .before .before .before .before .before) .sound), omega (arith, c .before .before .before .if3 .left))
+build-requires c κs =
+    ((begins (admitted (c .before .before .before .before .before .before .before .before) .sound), omega (arith, c .before .before .before .before .if3 .left)), c .before .before .makes-from .ensures)
 
 settle-requires : tie.Need-settle-requires
 settle-requires c κs =
