@@ -84,3 +84,7 @@ pub mod Batches
 -- Restore
 pub mod Builds
 pub mod Restores
+-- Kiosk
+pub mod Shallow
+pub mod Pairs
+pub mod Kiosks

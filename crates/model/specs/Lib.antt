@@ -20,3 +20,5 @@ pub mod Lists
 pub mod Link
 pub mod Request
 pub mod Replica
+pub mod Kiosk
+pub mod Engines

@@ -60,26 +60,49 @@ unchanged s a = (s .answer ≡ a) × (s .block′ ≡ s .block) × (s .inbox′ 
 abbrev pub turnedAway : Step → ℕ → Type 0
 turnedAway s n = unchanged s (record { number = n; again = 0; missing = 0; place = 0 })
 
--- an index already heard changes nothing; else the edit is done, if it finds room, and the index is marked
-abbrev pub Takes : Step → (v : ℕ) → Frame → (heard : Bool) → Type 0
-Takes s v f true = unchanged s (record { number = 0; again = 1; missing = missing (s .inbox); place = 0 })
-Takes s v f false =
-    Check (short (frameRule f (version (heap (s .block)) v) (supply (heap (s .block))) .1) ≡ false) (turnedAway s NO_ROOM)
-    ((s .answer ≡ record { number = 0; again = 0; missing = missing (marked (s .inbox) (f .count) (f .index)); place = 0 })
-    × Edited (s .block) (s .block′) v (frameRule f (version (heap (s .block)) v) (supply (heap (s .block))) .0)
-    × (s .inbox′ ≡ marked (s .inbox) (f .count) (f .index)))
-
 -- a put of 0 minutes, which would later read like a release
 abbrev pub PutsZero : Frame → Type 0
 PutsZero f = (f .kind ≡ 1) × (f .value ≡ 0)
 
--- a line with a fault is refused with that number, and the place of a bad digit; else batch and count are checked, then, of a repeat too, that no 0 is put
+-- a line of the batch is a repeat, where its index is heard, or new
+abbrev pub Heeds : (repeat new : Type 0) (heard : Bool) → Type 0
+Heeds repeat new true = repeat
+Heeds repeat new false = new
+
+-- a line against an inbox: a fault is refused with that number, and the place of a bad digit; else batch and count are checked, then, of a repeat too, that no 0 is put
+abbrev pub Judges : (x : List ℕ) (refused : (number place : ℕ) → Type 0) (repeat : Type 0) (new : Frame → Type 0) → Reading → Type 0
+Judges x refused repeat new (fault n p) = refused n p
+Judges x refused repeat new (good f) =
+    Check (f .batch ≡ batchOf x) (refused BATCH 0)
+    (Check ((countOf x ≡ 0) ⊎ (countOf x ≡ f .count)) (refused COUNT 0)
+    (Check (¬ PutsZero f) (refused ZERO 0) (Heeds repeat (new f) (heardAt x (f .index)))))
+
+-- refused, with a number and the place of a bad digit
+abbrev pub refusedAt : Step → (number place : ℕ) → Type 0
+refusedAt s n p = unchanged s (record { number = n; again = 0; missing = 0; place = p })
+
+-- an index already heard changes nothing
+abbrev pub repeated : Step → Type 0
+repeated s = unchanged s (record { number = 0; again = 1; missing = missing (s .inbox); place = 0 })
+
+-- an accepted line has its index marked, and the answer counts what is then missing
+abbrev pub accepted : Step → Frame → (changed : Type 0) → Type 0
+accepted s f changed =
+    (s .answer ≡ record { number = 0; again = 0; missing = missing (marked (s .inbox) (f .count) (f .index)); place = 0 })
+    × changed
+    × (s .inbox′ ≡ marked (s .inbox) (f .count) (f .index))
+
+-- a repeat changes nothing; of a new line the edit is done, if it finds room, and the index is marked
+abbrev pub Takes : Step → (v : ℕ) → Frame → (heard : Bool) → Type 0
+Takes s v f heard =
+    Heeds (repeated s)
+    (Check (short (frameRule f (version (heap (s .block)) v) (supply (heap (s .block))) .1) ≡ false) (turnedAway s NO_ROOM)
+    (accepted s f (Edited (s .block) (s .block′) v (frameRule f (version (heap (s .block)) v) (supply (heap (s .block))) .0))))
+    heard
+
+-- what a line says, judged against the inbox, and then done on version v
 abbrev pub Says : Step → (v : ℕ) → Reading → Type 0
-Says s v (fault n p) = unchanged s (record { number = n; again = 0; missing = 0; place = p })
-Says s v (good f) =
-    Check (f .batch ≡ batchOf (s .inbox)) (turnedAway s BATCH)
-    (Check ((countOf (s .inbox) ≡ 0) ⊎ (countOf (s .inbox) ≡ f .count)) (turnedAway s COUNT)
-    (Check (¬ PutsZero f) (turnedAway s ZERO) (Takes s v f (heardAt (s .inbox) (f .index)))))
+Says s v said = Judges (s .inbox) (refusedAt s) (repeated s) (λ f. Takes s v f false) said
 
 -- shape and soundness, block before inbox in each; version; then the line
 abbrev pub Receive : Step → (v : ℕ) (line : List ℕ) → Type 0
