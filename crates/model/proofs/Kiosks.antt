@@ -36,7 +36,7 @@ use Rattle.model.proofs.Receiving.{Belongs, line-markable}
 use Rattle.model.proofs.Replicas.{edited, frame-entries}
 use Rattle.model.proofs.Lines.{good-parse}
 use Rattle.model.proofs.Shallow.{listing-few}
-use Rattle.model.proofs.Pairs.{length-pairs, empty-sound, empty-pairs}
+use Rattle.model.proofs.Pairs.{length-pairs, holds-once, empty-sound, empty-pairs}
 
 -- a check whose premise is known
 passed : {P R M : Type 0} → P → Check P R M → M
@@ -200,3 +200,41 @@ module _ (v e : ℕ) (lv : v < 16) (le : e < 16) (apart : e ≢ v) where
       → (cs : List Call) (rs qs : Replies cs) → Runs flat cs emptyKiosk (begun batch) rs → Runs (tree v e) cs b (begun batch) qs → Roomy cs rs → Roomy cs qs → rs ≡ qs
   unfolding entries
   kiosk-as-tree batch b B bare empty cs rs qs = all cs (record { kiosk = empty-sound; block = B; same = empty-pairs ∙ sym (ap entries bare); empty = empty }) (begun-sound batch) refl
+
+-- For every input of the kiosk's calls there is one possible answer, one possible kiosk and one possible inbox afterwards.
+pub kiosk-once : (c : Call) (k x : List ℕ) {k1 k2 x1 x2 : List ℕ} {r q : Reply c} → Does flat c k x k1 x1 r → Does flat c k x k2 x2 q → (r ≡ q) × (k1 ≡ k2) × (x1 ≡ x2)
+kiosk-once (lookup key) k x {r = r} {q = q} F T = (check-once (F .0) (T .0) one (λ f t. check-once f t one one), F .1 ∙ sym (T .1), F .2 ∙ sym (T .2))
+  where
+    one : {a : Answer} → r ≡ a → q ≡ a → r ≡ q
+    one d e = d ∙ sym e
+kiosk-once (insert key value) k x {k1 = k1} {k2 = k2} {r = r} {q = q} F T = let w = check-once (F .0) (T .0) kept (λ f t. check-once f t kept (λ f t. check-once f t kept (λ f t. check-once f t kept done))) in (w .0, w .1, F .1 ∙ sym (T .1))
+  where
+    kept : {a : Answer} {z : List ℕ} → (r ≡ a) × (k1 ≡ z) → (q ≡ a) × (k2 ≡ z) → (r ≡ q) × (k1 ≡ k2)
+    kept f t = (f .0 ∙ sym (t .0), f .1 ∙ sym (t .1))
+
+    done : {a : Answer} {es : List Entry} → (r ≡ a) × Holds k1 es → (q ≡ a) × Holds k2 es → (r ≡ q) × (k1 ≡ k2)
+    done f t = (f .0 ∙ sym (t .0), holds-once (f .1) (t .1))
+kiosk-once (remove key) k x {k1 = k1} {k2 = k2} {r = r} {q = q} F T = let w = check-once (F .0) (T .0) kept (λ f t. check-once f t kept done) in (w .0, w .1, F .1 ∙ sym (T .1))
+  where
+    kept : {a : Answer} {z : List ℕ} → (r ≡ a) × (k1 ≡ z) → (q ≡ a) × (k2 ≡ z) → (r ≡ q) × (k1 ≡ k2)
+    kept f t = (f .0 ∙ sym (t .0), f .1 ∙ sym (t .1))
+
+    done : {a : Answer} {es : List Entry} → (r ≡ a) × Holds k1 es → (q ≡ a) × Holds k2 es → (r ≡ q) × (k1 ≡ k2)
+    done f t = (f .0 ∙ sym (t .0), holds-once (f .1) (t .1))
+kiosk-once (list start out) k x {r = r} {q = q} F T = (check-once (F .0) (T .0) one (λ f t. check-once f t one one), F .1 ∙ sym (T .1), F .2 ∙ sym (T .2))
+  where
+    one : {a : Report} {z : List ℕ} → (r .report ≡ a) × (r .out ≡ z) → (q .report ≡ a) × (q .out ≡ z) → r ≡ q
+    one d e = shown-ext r q (d .0 ∙ sym (e .0)) (d .1 ∙ sym (e .1))
+kiosk-once (receive line) k x {k1 = k1} {k2 = k2} {x1 = x1} {x2 = x2} {r = r} {q = q} F T =
+    check-once F T kept (λ f t. check-once f t kept (λ f t. check-once f t kept (λ f t. check-once f t kept
+    (judged-alike line x (λ n i. kept) kept (λ g d W h f t. check-once f t kept done) (read line) refl))))
+  where
+    kept : {a : Heard} {y z : List ℕ} → (r ≡ a) × (k1 ≡ y) × (x1 ≡ z) → (q ≡ a) × (k2 ≡ y) × (x2 ≡ z) → (r ≡ q) × (k1 ≡ k2) × (x1 ≡ x2)
+    kept f t = (f .0 ∙ sym (t .0), f .1 ∙ sym (t .1), f .2 ∙ sym (t .2))
+
+    done : {a : Heard} {es : List Entry} {z : List ℕ} → (r ≡ a) × Holds k1 es × (x1 ≡ z) → (q ≡ a) × Holds k2 es × (x2 ≡ z) → (r ≡ q) × (k1 ≡ k2) × (x1 ≡ x2)
+    done f t = (f .0 ∙ sym (t .0), holds-once (f .1) (t .1), f .2 ∙ sym (t .2))
+kiosk-once missing k x {r = r} {q = q} F T = let w = missing-once x (r .number) (q .number) (r .missing) (q .missing) (F .0) (T .0) in (lack-ext r q (w .0) (w .1), F .1 ∙ sym (T .1), F .2 ∙ sym (T .2))
+
+pub kiosk-fresh-once : (k a c : List ℕ) (n m : ℕ) → kiosk.Fresh k a n → kiosk.Fresh k c m → (n ≡ m) × (a ≡ c)
+kiosk-fresh-once k a c n m F T = check-once F T (λ p q. (p .0 ∙ sym (q .0), p .1 ∙ sym (q .1))) (λ p q. (p .0 ∙ sym (q .0), p .1 ∙ sym (q .1)))

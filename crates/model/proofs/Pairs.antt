@@ -1,11 +1,12 @@
 -- The kiosk's words and its entries.
 use mathlib.Core.Path.{_≡_, refl, ap, sym, subst, _∙_}
-use Prim.Native.Nat.{ℕ, zero, suc, _+_, _*_, _≤_, _<_}
+use mathlib.Core.Logic.{_⊎_, inl, inr}
+use Prim.Native.Nat.{ℕ, zero, suc, _+_, _-_, _*_, _/_, _%_, _≤_, _<_}
 use mathlib.Core.List.{List, [], _∷_, _++_}
-use lib.ListN.{length, length-replicate, getD-replicate}
+use lib.ListN.{length, getD, length-replicate, getD-replicate}
 use lib.Seq.{ext-getD}
 use native.Mathlib.Omega.{arith}
-use native.Mathlib.Decide.{ℕ-discrete}
+use native.Mathlib.Decide.{ℕ-discrete, decLe}
 use Rattle.model.specs.Tree.{Entry, AllAbove, Sorted}
 use Rattle.model.specs.Block.{word}
 use Rattle.model.specs.Kiosk.{count, keyAt, valueAt, pairsFrom, pairs, SoundKiosk, emptyKiosk, Holds}
@@ -41,6 +42,13 @@ pairs-same k l i j (suc n) h = rw (keys, values) (ap (λ es. (keyAt l j, valueAt
 
     values : valueAt k i ≡ valueAt l j
     values = ap (valueAt k) (none i) ∙ h 0 (omega arith) .1 ∙ ap (valueAt l) (sym (none j))
+
+-- pair t of them
+pub pairs-at : (k : List ℕ) (i n t : ℕ) → t < n → getD (pairsFrom k i n) t (0, 0) ≡ (keyAt k (i + t), valueAt k (i + t))
+unfolding pairsFrom
+pairs-at k i zero t h = absurd (omega arith)
+pairs-at k i (suc n) zero h = let e : i ≡ i + 0 = omega arith in ap (λ j. (keyAt k j, valueAt k j)) e
+pairs-at k i (suc n) (suc t) h = let e : suc i + t ≡ i + suc t = omega arith in pairs-at k (suc i) n t (omega arith) ∙ ap (λ j. (keyAt k j, valueAt k j)) e
 
 -- keys ascend one by one exactly when the entries are sorted
 above : (k : List ℕ) (h i n : ℕ) → (0 < n → h < keyAt k i) → ((j : ℕ) → i ≤ j → j + 1 < i + n → keyAt k j < keyAt k (j + 1)) → AllAbove h (pairsFrom k i n)
@@ -87,6 +95,33 @@ holds-by {k} n long counts few is sorted unused = record {
 -- the number of entries
 pub holds-count : {k : List ℕ} {es : List Entry} → Holds k es → count k ≡ length es
 holds-count {k} H = sym (length-pairs k 0 (count k)) ∙ ap length (H .is)
+
+-- the entries decide every word
+pub holds-once : {k l : List ℕ} {es : List Entry} → Holds k es → Holds l es → k ≡ l
+holds-once {k} {l} {es} H I = ext-getD 0 k l (H .sound .long ∙ sym (I .sound .long)) (λ w h. at w (omega (arith, H .sound .long)) (decLe w (2 * count k)))
+  where
+    counts : count k ≡ count l
+    counts = holds-count H ∙ sym (holds-count I)
+
+    pair : (t : ℕ) → t < count k → _≡_ {A = ℕ × ℕ} (keyAt k t, valueAt k t) (keyAt l t, valueAt l t)
+    pair t h =
+        let e : 0 + t ≡ t = omega arith in
+        let p = pairs-at k 0 (count k) t h in
+        let q = pairs-at l 0 (count l) t (omega (arith, h, counts)) in
+        rw e at (sym p ∙ ap (λ es. getD es t (0, 0)) (H .is ∙ sym (I .is)) ∙ q)
+
+    used : (w t : ℕ) → t < count k → (w ≡ 1 + 2 * t) ⊎ (w ≡ 2 + 2 * t) → word k w ≡ word l w
+    used w t h (inl e) = rw e (ap (λ (p : ℕ × ℕ). p .0) (pair t h))
+    used w t h (inr e) = rw e (ap (λ (p : ℕ × ℕ). p .1) (pair t h))
+
+    side : (w : ℕ) → 0 < w → Dec ((w - 1) % 2 ≡ 0) → (w ≡ 1 + 2 * ((w - 1) / 2)) ⊎ (w ≡ 2 + 2 * ((w - 1) / 2))
+    side w h (yes e) = inl (omega arith)
+    side w h (no e) = inr (omega arith)
+
+    at : (w : ℕ) → w < 129 → Dec (w ≤ 2 * count k) → word k w ≡ word l w
+    at zero h d = counts
+    at (suc w) h (yes p) = used (suc w) ((suc w - 1) / 2) (omega arith) (side (suc w) (omega arith) (ℕ-discrete ((suc w - 1) % 2) 0))
+    at (suc w) h (no p) = H .sound .unused (suc w) (omega arith) h ∙ sym (I .sound .unused (suc w) (omega (arith, p, counts)) h)
 
 -- a sound kiosk holds its own entries
 pub holds-own : {k : List ℕ} → SoundKiosk k → Holds k (pairs k)
