@@ -31,7 +31,7 @@ well-heard-line s line R W = go (receive-outcome s 0 line R)
     go : Outcome s 0 (parse line) → Well (s .block′) (s .inbox′)
     go (away n b x) = well-same W (b, x)
     go (again f e B h a b x) = well-same W (b, x)
-    go (new f e B h a m E x) = record { block = E .sound; room-is = E .room-kept ∙ W .room-is; inbox = subst SoundInbox (sym x) (marked-sound (line-markable line f (W .inbox) e B h)) }
+    go (new f e B h a (m, E) x) = record { block = E .sound; room-is = E .room-kept ∙ W .room-is; inbox = subst SoundInbox (sym x) (marked-sound (line-markable line f (W .inbox) e B h)) }
 
 well-hearing : {b x c y : List ℕ} {lines : List (List ℕ)} → Hearing Nothing 0 b x lines c y → Well b x → Well c y
 well-hearing still W = W

@@ -35,3 +35,16 @@ module _ {n k c : ℕ} {X : Type 0} (e : n ≡ c) where
 
   pub other : c ≢ k → (X → ⊥) → (n ≡ k) ↔ X
   other ne f = ((λ z. absurd (ne (sym e ∙ z))), (λ x. absurd (f x)))
+
+-- a check whose premise is known, or whose refusal did not come
+pub passed : {P R M : Type 0} → P → Check P R M → M
+passed p (fails q r) = absurd (q p)
+passed p (passes q m) = m
+
+pub failed : {P R M : Type 0} → (P → ⊥) → Check P R M → R
+failed p (fails q r) = r
+failed p (passes q m) = absurd (p q)
+
+pub unless : {P R M : Type 0} → (R → ⊥) → Check P R M → M
+unless n (fails p r) = absurd (n r)
+unless n (passes p m) = m

@@ -1,12 +1,11 @@
 -- The kiosk and one version of the table, call by call: as long as neither is refused for room they hold the same entries and give the same answers.
 use mathlib.Core.Path.{_≡_, refl, ap, sym, subst, _∙_}
 use mathlib.Core.Logic.{_≢_}
-use Prim.Native.Nat.{ℕ, suc, _≤_, _<_}
+use Prim.Native.Nat.{ℕ, _≤_, _<_}
 use mathlib.Core.Bool.{Bool, true, false}
-use mathlib.Core.Option.{Option, none, some}
+use mathlib.Core.Option.{some}
 use mathlib.Core.List.{List, [], _∷_, map}
 use lib.ListN.{length}
-use lib.Dec.{ltb}
 use borrow.Author.Tests.{ltb-true, lt-ltb}
 use native.Mathlib.Omega.{arith}
 use native.Mathlib.Decide.{decLt}
@@ -16,17 +15,16 @@ use Rattle.model.specs.Tree.{Tree, leaf, Ordered, Entry, size, entries, 
 use Rattle.model.specs.Heap.{version, supply}
 use Rattle.model.specs.Block.{heap, Shaped, SoundBlock}
 use Rattle.model.specs.Frame.{Frame, Reading, good, fault, read, parse}
-use Rattle.model.specs.Inbox.{heardAt, SoundInbox, begun, marked}
+use Rattle.model.specs.Inbox.{heardAt, SoundInbox, begun}
 use Rattle.model.specs.Numbers.{NO_ROOM}
-use Rattle.model.specs.Calls.{Check, fails, passes, Answer, finding, Versions, Edited, Edits, inserting, removing}
-use Rattle.model.specs.Calls as calls
-use Rattle.model.specs.Lists.{Report, listed, part, over}
+use Rattle.model.specs.Calls.{Check, fails, passes, Answer, finding, Versions, Edited}
+use Rattle.model.specs.Lists.{Report, part, over}
 use Rattle.model.specs.Lists as lists
-use Rattle.model.specs.Link.{Heard, Step, unchanged, Heeds, Judges, frameRule}
-use Rattle.model.specs.Link as link
+use Rattle.model.specs.Link.{Heard, Heeds, Judges}
 use Rattle.model.specs.Kiosk.{pairs, SoundKiosk, emptyKiosk, Holds, entryWords}
 use Rattle.model.specs.Kiosk as kiosk
 use Rattle.model.specs.Engines.{Call, lookup, insert, remove, list, receive, missing, Lack, Shown, Reply, numberOf, flat, tree, Does, Replies, Runs, Roomy}
+use Rattle.model.proofs.Checks.{passed, failed, unless}
 use Rattle.model.proofs.Entries.{lookup-entries, insert-entries}
 use Rattle.model.proofs.Edits.{size-length, remove-entries}
 use Rattle.model.proofs.Versions.{version-ordered}
@@ -37,19 +35,6 @@ use Rattle.model.proofs.Replicas.{edited, frame-entries}
 use Rattle.model.proofs.Lines.{good-parse}
 use Rattle.model.proofs.Shallow.{listing-few}
 use Rattle.model.proofs.Pairs.{length-pairs, holds-once, empty-sound, empty-pairs}
-
--- a check whose premise is known
-passed : {P R M : Type 0} → P → Check P R M → M
-passed p (fails q r) = absurd (q p)
-passed p (passes q m) = m
-
-failed : {P R M : Type 0} → (P → ⊥) → Check P R M → R
-failed p (fails q r) = r
-failed p (passes q m) = absurd (p q)
-
-unless : {P R M : Type 0} → (R → ⊥) → Check P R M → M
-unless n (fails p r) = absurd (n r)
-unless n (passes p m) = m
 
 -- a sound kiosk, and a sound block with versions that it has, pass their checks
 flat-passes : {k : List ℕ} {P Q M : Type 0} → SoundKiosk k → Check (length k ≡ 129) P (Check (SoundKiosk k) Q M) → M
@@ -167,11 +152,11 @@ module _ (v e : ℕ) (lv : v < 16) (le : e < 16) (apart : e ≢ v) where
     receives line F T p q =
         judged-alike line x (λ n i f t. stayed (f .0 ∙ sym (t .0)) (f .1) (t .1) (f .2) (t .2)) (λ f t. stayed (f .0 ∙ sym (t .0)) (f .1) (t .1) (f .2) (t .2))
         (λ g d W h f t.
-            let f = unless (λ r. p (ap (λ (a : Heard). a .number) (r .0))) f in
-            let t = unless (λ r. q (ap (λ (a : Heard). a .number) (r .0))) t in
-            changed _ (f .0 ∙ sym (t .0)) (f .1) (t .1)
-            (frame-entries g (version (heap b) v) (supply (heap b)) held ∙ ap (setBy (g .kind) (g .key) (g .value)) (sym (A .same)))
-            (f .2 ∙ sym (t .2)) (subst SoundInbox (sym (f .2)) (marked-sound (line-markable line g S d W h))))
+        let f = unless (λ r. p (ap (λ (a : Heard). a .number) (r .0))) f in
+        let t = unless (λ r. q (ap (λ (a : Heard). a .number) (r .0))) t in
+        changed _ (f .0 ∙ sym (t .0)) (f .1) (t .1)
+        (frame-entries g (version (heap b) v) (supply (heap b)) held ∙ ap (setBy (g .kind) (g .key) (g .value)) (sym (A .same)))
+        (f .2 ∙ sym (t .2)) (subst SoundInbox (sym (f .2)) (marked-sound (line-markable line g S d W h))))
         (read line) refl (passed S (passed (A .kiosk) (passed (S .long) (passed (A .kiosk .long) F))))
         (passed lv (passed S (passed (A .block) (passed (S .long) (passed (A .block .shaped) T)))))
 

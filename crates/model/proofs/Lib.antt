@@ -61,6 +61,7 @@ pub mod Heard
 pub mod Missing
 pub mod Replicas
 pub mod Receiving
+pub mod Stores
 pub mod Standbys
 pub mod Reading
 -- Asking for lost lines

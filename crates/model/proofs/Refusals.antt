@@ -297,7 +297,7 @@ module _ (s : Step) (v : ℕ) (line : List ℕ) where
           done : s .answer .number ≡ 0 → Outcome s v (parse line) → ⊥
           done z (away n b x) = n z
           done z (again f e W h a b x) = let p : f ≡ C .frame = cc (sym e ∙ C .said) in true≢false (sym h ∙ ap (λ (g : Frame). heardAt (s .inbox) (g .index)) p ∙ C .new)
-          done z (new f e W h a r E x) = let p : f ≡ C .frame = cc (sym e ∙ C .said) in true≢false (sym (C .short) ∙ ap (λ (g : Frame). short (frameRule g (version (heap (s .block)) v) (supply (heap (s .block))) .1)) (sym p) ∙ r)
+          done z (new f e W h a (r, E) x) = let p : f ≡ C .frame = cc (sym e ∙ C .said) in true≢false (sym (C .short) ∙ ap (λ (g : Frame). short (frameRule g (version (heap (s .block)) v) (supply (heap (s .block))) .1)) (sym p) ∙ r)
 
   takes-other : (f : Frame) (h : Bool) → Takes s v f h → s .answer .number ≡ ZERO → ⊥
   takes-other f true u z = no (u .0) (omega arith) z

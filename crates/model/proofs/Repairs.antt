@@ -13,7 +13,7 @@ use Rattle.model.specs.Block.{heap, SoundBlock}
 use Rattle.model.specs.Frame.{Frame, frames}
 use Rattle.model.specs.Inbox.{countOf, heardAt, begun, Complete}
 use Rattle.model.specs.Link.{Step}
-use Rattle.model.specs.Replica.{NoZeroSent, Elsewhere, Hearing, still, then, Each, Some, Took, Genuine}
+use Rattle.model.specs.Replica.{NoZeroSent, table, Elsewhere, Hearing, still, then, Each, Some, Took, Genuine}
 use Rattle.model.specs.Request.{asked, requestOf, Arrives, Repaired}
 use Rattle.model.proofs.Frames.{frames-few}
 use Rattle.model.proofs.Replicas.{Sending, Follows, start-follows, complete-heard, complete-entries}
@@ -67,11 +67,11 @@ module _ (primary : List ℕ) (P : SoundBlock primary) (A B batch : ℕ) (la : A
     ends = request-complete y (L .follows .sound) (L .follows .words) .1 done;
   }
     where
-      K : Kept D v lt (begun batch) run
-      K = kept-run D v lt run S (rw holds (start-follows D)) genuine
+      K : Kept D (table v) lt (begun batch) run
+      K = kept-run D (table v) lt run S (rw holds (start-follows D)) genuine
 
-      L : Kept D v lt x again
-      L = kept-run D v lt again (K .sound) (K .follows) genuine′
+      L : Kept D (table v) lt x again
+      L = kept-run D (table v) lt again (K .sound) (K .follows) genuine′
 
       took : (i : ℕ) → i < length sent → Some (Arrives sent i) again → Some (Took sent i) again
       took i l s = each-some (λ s line H r. (⊎-elim (λ e. e) (λ e. absurd (r .0 e)) (H .only-room (i, l, r .1)), r .1)) again (L .answers (none-puts-zero P A B batch la lb fits shallow worth)) s

@@ -8,7 +8,7 @@ use mathlib.Core.List.{List, [], _∷_, map}
 use lib.ListN.{length}
 use lib.Dec.{eqb, leb}
 use native.Mathlib.Omega.{arith}
-use Rattle.model.specs.Tree.{Tree, leaf, node, Entry, size, idOf, entries, cut, find}
+use Rattle.model.specs.Tree.{Tree, leaf, node, size, idOf, entries, cut}
 use Rattle.model.specs.Listing.{Item, tree, entry, Sides, Row, Turn, over, on, yield, pend, opened, turn, start, listing, nextSides, after, leftEntries, _∈_}
 use Rattle.model.specs.Heap.{Heap, version, Sound}
 use Rattle.model.specs.Lists.{rowWords}

@@ -184,7 +184,7 @@ no-zero-received s v line B lt R Z w l = go (receive-outcome s v line R)
     go : Outcome s v (parse line) → Zeroless (entries (version (heap (s .block′)) w))
     go (away n b x) = rw b (Z w l)
     go (again f e W h a b x) = rw b (Z w l)
-    go (new f e W h a r E x) = at (ℕ-discrete w v)
+    go (new f e W h a (r, E) x) = at (ℕ-discrete w v)
       where
         o : Sorted (entries (version (heap (s .block)) v))
         o = ordered-sorted _ (version-ordered (B .sound) v lt)

@@ -19,6 +19,6 @@ pub mod Restore
 pub mod Lists
 pub mod Link
 pub mod Request
-pub mod Replica
 pub mod Kiosk
 pub mod Engines
+pub mod Replica
