@@ -3,8 +3,8 @@ use borrow.Author.Needs.{needs}
 use mathlib.Core.Path.{refl}
 use Rattle.model.specs.Calls.{fails, passes}
 use Rattle.model.proofs.Tells.{tells-yes, tells-no}
-use Rattle.link.proofs.belongs.Statement.{statement}
-use Rattle.link.proofs.belongs.Tie as tie
+use Rattle.judge.proofs.belongs.Statement.{statement}
+use Rattle.judge.proofs.belongs.Tie as tie
 
 shared-slice-read-if1 : tie.Need-shared-slice-read-if1
 shared-slice-read-if1 c = search needs

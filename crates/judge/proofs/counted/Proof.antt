@@ -1,9 +1,9 @@
 -- A count of 0 agrees with every frame's.
 use borrow.Author.Needs.{needs}
 use mathlib.Core.Logic.{inl}
-use Rattle.link.proofs.Lines.{count-told}
-use Rattle.link.proofs.counted.Statement.{statement}
-use Rattle.link.proofs.counted.Tie as tie
+use Rattle.judge.proofs.Lines.{count-told}
+use Rattle.judge.proofs.counted.Statement.{statement}
+use Rattle.judge.proofs.counted.Tie as tie
 
 shared-slice-read-if1 : tie.Need-shared-slice-read-if1
 shared-slice-read-if1 c = search needs

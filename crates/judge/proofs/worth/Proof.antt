@@ -1,9 +1,9 @@
 -- Only a put can put a zero.
 use native.Mathlib.Omega.{arith}
 use Rattle.frame.specs.Fields.{fieldsOf}
-use Rattle.link.proofs.Lines.{worth-told}
-use Rattle.link.proofs.worth.Statement.{statement}
-use Rattle.link.proofs.worth.Tie as tie
+use Rattle.judge.proofs.Lines.{worth-told}
+use Rattle.judge.proofs.worth.Statement.{statement}
+use Rattle.judge.proofs.worth.Tie as tie
 
 returns : tie.Need-returns
 returns c = λ z. omega (arith, z .0, c .if1 .taken)
