@@ -49,7 +49,7 @@ fn shown(total: u32, start: u32, room: usize) -> u32
 // Four words: key, value, 0, 0.
 fn put_entry(out: &mut [u32], at: usize, key: u32, value: u32)
     requires { ⌜ at + 4 ≤ length (now out) ⌝ }
-    ensures { λ _. ⌜ now (out .exit) ≡ take at (now (out .entry)) ++ entryWords (key, value) ++ drop (at + 4) (now (out .entry)) ⌝ }
+    ensures { λ _. ⌜ now (out .exit) ≡ take at (now (out .entry)) ++ (entryWords (key, value) ++ drop (at + 4) (now (out .entry))) ⌝ }
 {
     out[at] = key;
     out[at + 1] = value;
@@ -59,7 +59,7 @@ fn put_entry(out: &mut [u32], at: usize, key: u32, value: u32)
 
 // The n entries from `start` on to the front of `out`.
 fn write(k: &[u32], start: usize, n: usize, out: &mut [u32])
-    requires { ⌜ SoundKiosk (now k) × (start + n ≤ count (now k)) × (4 * n ≤ length (now out)) ⌝ }
+    requires { ⌜ SoundKiosk (now k) × (n ≤ count (now k) - start) × (4 * n ≤ length (now out)) ⌝ }
     ensures { λ _. ⌜ now (out .exit) ≡ laid (take n (drop start (map entryWords (pairs (now (k .entry)))))) ++ drop (4 * n) (now (out .entry)) ⌝ }
 {
     let mut j: usize = 0;
@@ -84,9 +84,7 @@ pub fn list(k: &[u32], start: u32, out: &mut [u32]) -> Report
     }
     let total = k[0];
     let m = shown(total, start, out.len() / 4);
-    if 0 < m {
-        write(k, wide(start), wide(m), out);
-    }
+    write(k, wide(start), wide(m), out);
     Report {
         number: 0,
         written: 4 * m,

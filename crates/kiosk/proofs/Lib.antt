@@ -1,0 +1,4 @@
+pub mod Testing
+pub mod Finding
+pub mod Moving
+pub mod Writing
