@@ -9,9 +9,11 @@ use native.Mathlib.Omega.{arith}
 use native.Mathlib.Decide.{ℕ-discrete}
 use Rattle.model.specs.Frame as lines
 use Rattle.model.specs.Frame.{Reading, good, fault, read}
-use Rattle.model.specs.Inbox.{countOf, heardAt, SoundInbox}
+use Rattle.model.specs.Inbox.{countOf, heardAt, SoundInbox, marked, missing}
+use Rattle.model.specs.Numbers.{NO_ROOM}
 use Rattle.model.specs.Calls.{Check, fails, passes}
-use Rattle.model.specs.Link.{PutsZero, Heeds, Judges}
+use Rattle.model.specs.Link as link
+use Rattle.model.specs.Link.{Step, turnedAway, accepted, PutsZero, Heeds, Judges}
 use Rattle.model.specs.Tells.{Tells}
 use Rattle.model.proofs.Checks.{check-map, check-holds, check-next}
 use Rattle.model.proofs.Tells.{tells-eqb, tells-ltb}
@@ -123,3 +125,15 @@ new-fit x line v f X e J = go (read line) refl J
 -- an inbox that may mark an index, in the model's words
 pub markable : {x : List ℕ} {count index : ℕ} → Fit x count index → Markable x count index
 markable F = record { sound = F .inbox; small = F .small; below = F .below; counts = F .counts; new = F .new }
+
+-- what a call says of a new line, from what its edit did: NO_ROOM and nothing changed, or done, and then the line is accepted
+module _ (s : Step) (f : lines.Frame) {room changed : Type 0} {m : ℕ} (E : Check room ((m ≡ NO_ROOM) × (s .block′ ≡ s .block)) ((m ≡ 0) × changed)) where
+  pub no-room : m ≢ 0 → s .answer ≡ record { number = m; again = 0; missing = 0; place = 0 } → s .inbox′ ≡ s .inbox → Check room (turnedAway s NO_ROOM) (accepted s f changed)
+  no-room ne a x = check-map E (λ u. (a ∙ ap told (u .0), u .1, x)) (λ u. absurd (ne (u .0)))
+    where
+      told : ℕ → link.Heard
+      told n = record { number = n; again = 0; missing = 0; place = 0 }
+
+  pub was-done : m ≡ 0 → s .answer ≡ record { number = 0; again = 0; missing = missing (marked (s .inbox) (f .count) (f .index)); place = 0 }
+      → s .inbox′ ≡ marked (s .inbox) (f .count) (f .index) → Check room (turnedAway s NO_ROOM) (accepted s f changed)
+  was-done z a x = check-map E (λ u. let five : _≡_ {A = ℕ} 5 0 = sym (u .0) ∙ z in absurd (omega arith)) (λ u. (a, u .1, x))

@@ -2,3 +2,5 @@ pub mod Testing
 pub mod Finding
 pub mod Moving
 pub mod Writing
+pub mod Calling
+pub mod Receiving

@@ -5,17 +5,18 @@ use Prim.Native.Nat.{ℕ, zero, suc, _+_, _-_, _*_, _≤_, _<_}
 use mathlib.Core.Bool.{Bool}
 use mathlib.Core.Option.{none, some}
 use mathlib.Core.List.{List, [], _∷_, _++_}
-use lib.ListN.{length, getD, set, length-set}
+use lib.ListN.{length, getD, set, replicate, length-set}
 use lib.Seq.{getD-set-same, getD-set-other}
 use native.Mathlib.Omega.{arith}
 use native.Mathlib.Decide.{ℕ-discrete, decLt}
-use Rattle.model.specs.Tree.{Cut, cut, put, without}
+use Rattle.model.specs.Tree.{Cut, cut, put, without, setBy}
 use Rattle.model.specs.Block.{word}
-use Rattle.model.specs.Kiosk.{count, keyAt, valueAt, pairsFrom, pairs, SoundKiosk, Holds}
+use Rattle.model.specs.Calls.{fails, passes}
+use Rattle.model.specs.Kiosk.{count, keyAt, valueAt, pairsFrom, pairs, SoundKiosk, emptyKiosk, Holds}
 use Rattle.model.proofs.Finds.{sorted-without}
 use Rattle.model.proofs.Maps.{put-is}
-use Rattle.model.proofs.Pairs.{pairs-split, pairs-same, sound-sorted, holds-by, holds-own}
-use Rattle.kiosk.specs.Places.{Place, Opened, Closed}
+use Rattle.model.proofs.Pairs.{length-pairs, pairs-split, pairs-same, sound-sorted, holds-by, holds-own}
+use Rattle.kiosk.specs.Places.{Place, Opened, Closed, Putting, Editing}
 use Rattle.kiosk.proofs.Finding.{pairs-around, cut-has, cut-lacks}
 
 -- words from w on stand two higher, up to `high`
@@ -187,3 +188,40 @@ module _ {k : List ℕ} {key i : ℕ} (S : SoundKiosk k) (P : Place k key i) whe
       let n : count k ≡ i + (count k - i) = omega (arith, P .within) in
       let z : 0 + i ≡ i = omega arith in
       record { sound = S; is = ap (pairsFrom k 0) n ∙ pairs-split k 0 i (count k - i) ∙ ap (λ j. pairsFrom k 0 i ++ pairsFrom k j (count k - i)) z ∙ ap (λ (c : Cut). c .before ++ c .after) (sym (cut-lacks P lacks)) }
+
+-- fresh
+pub cleared : (k : List ℕ) {a : List ℕ} → length k ≡ 129 → a ≡ replicate (length k) 0 → a ≡ emptyKiosk
+unfolding emptyKiosk
+cleared k e q = q ∙ ap (λ n. replicate n 0) e
+
+-- a put, by what was found at the key's place
+module _ {k : List ℕ} {key i : ℕ} (S : SoundKiosk k) (P : Place k key i) (value : ℕ) where
+  pub putting-over : (i < count k) × (keyAt k i ≡ key) → Putting k (set k (2 + 2 * i) value) key value 0
+  putting-over (h, e) = passes (λ F. let z : none ≡ some (valueAt k i) = sym (F .0) ∙ ap (λ (c : Cut). c .found) (cut-has P h e) in let d : _≡_ {A = ℕ} 0 1 = cc z in absurd (omega arith)) (refl, put-over S P value h e)
+
+  module _ (lacks : (i < count k) × (keyAt k i ≡ key) → ⊥) where
+    pub putting-full : 64 ≤ count k → Putting k k key value 5
+    putting-full h = fails (λ n. n (ap (λ (c : Cut). c .found) (cut-lacks P lacks), omega (arith, length-pairs k 0 (count k)))) (refl, refl)
+
+    pub putting-new : {o : List ℕ} → count k < 64 → Opened k o i → Putting k (set (set (set o (1 + 2 * i) key) (2 + 2 * i) value) 0 (count k + 1)) key value 0
+    putting-new h O = passes (λ F. omega (arith, F .1, length-pairs k 0 (count k))) (refl, put-new S P value lacks h O)
+
+-- the edit of a frame, by its kind
+pub edit-nothing : {k : List ℕ} (kind key value : ℕ) → SoundKiosk k → kind ≡ 0 → Editing k k kind key value 0
+unfolding setBy
+edit-nothing {k} zero key value S z = passes (λ F. omega (arith, F .0)) (refl, holds-own S)
+edit-nothing {k} (suc kind) key value S z = absurd (omega arith)
+
+pub edit-put : {k a : List ℕ} {n : ℕ} (kind key value : ℕ) → kind ≡ 1 → Putting k a key value n → Editing k a kind key value n
+unfolding setBy
+edit-put {k} {a} {n} kind key value e E = subst (λ i. Editing k a i key value n) (sym e) (by E)
+  where
+    by : Putting k a key value n → Editing k a 1 key value n
+    by (fails p u) = fails (λ q. p (λ F. q (refl, F))) u
+    by (passes p u) = passes (λ F. p (F .1)) u
+
+pub edit-take : {k a : List ℕ} (kind key value : ℕ) → kind ≢ 0 → kind ≢ 1 → Holds a (without (pairs k) key) → Editing k a kind key value 0
+unfolding setBy
+edit-take zero key value p q H = absurd (p refl)
+edit-take (suc zero) key value p q H = absurd (q refl)
+edit-take (suc (suc kind)) key value p q H = passes (λ F. q (F .0)) (refl, H)

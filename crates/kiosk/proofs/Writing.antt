@@ -8,7 +8,9 @@ use lib.Seq.{sets, sets-eq, take-at, drop-append-add, drop-drop, getD-drop}
 use Rattle.model.specs.Tree.{Entry}
 use Rattle.model.specs.Lists.{Report, laid, part, over}
 use Rattle.model.specs.Calls.{passes}
-use Rattle.model.specs.Kiosk.{count, keyAt, valueAt, pairsFrom, pairs, entryWords, SoundKiosk, Lists}
+use mathlib.Core.Logic.{_≢_}
+use Rattle.model.proofs.Checks.{check-map}
+use Rattle.model.specs.Kiosk.{count, keyAt, valueAt, pairsFrom, pairs, entryWords, SoundKiosk, Checked, Lists}
 use Rattle.model.proofs.Cutting.{map-at, take-min, Wide, wide-map, wide-drop, laid-long}
 use Rattle.model.proofs.Pairs.{length-pairs, pairs-at}
 
@@ -90,9 +92,10 @@ module _ {k : List ℕ} {start n : ℕ} {o out : List ℕ} {j : ℕ} (W : Writte
   written-all h = let e : j ≡ n = omega (arith, W .most) in W .is ∙ rw e
 
 -- the whole call: m entries are shown
-pub listed : {k out after : List ℕ} {m : ℕ} (start : ℕ) (S : SoundKiosk k) → m ≡ min (length out / 4) (count k - start) → after ≡ laid (take m (drop start (pieces k))) ++ drop (4 * m) out
-    → Lists k out after start (record { number = 0; written = 4 * m; total = count k })
-listed {k} {out} {after} {m} start S e w = passes (S .long) (passes S (reported, w ∙ rw (t, front-long)))
+pub listed : {k out after : List ℕ} {m i j : ℕ} (start : ℕ) (S : SoundKiosk k) → m ≡ min (length out / 4) (count k - start) → i ≡ start → j ≡ m
+    → after ≡ laid (take j (drop i (pieces k))) ++ drop (4 * j) out → Lists k out after start (record { number = 0; written = 4 * m; total = count k })
+listed {k} {out} {after} {m} {i} {j} start S e p r w =
+    passes (S .long) (passes S (reported, w ∙ ap (λ i. laid (take j (drop i (pieces k))) ++ drop (4 * j) out) p ∙ ap (λ j. laid (take j (drop start (pieces k))) ++ drop (4 * j) out) r ∙ rw (t, front-long)))
   where
     many : m ≡ min (length out / 4) (length (drop start (pieces k)))
     many = rw (length-drop start (pieces k), pieces-long k) e
@@ -105,3 +108,10 @@ listed {k} {out} {after} {m} start S e w = passes (S .long) (passes S (reported,
 
     reported : _≡_ {A = Report} (record { number = 0; written = 4 * m; total = count k }) (record { number = 0; written = length (part 4 start (length out) (pieces k)); total = length (pieces k) })
     reported = rw (t, front-long, pieces-long k)
+
+-- a refusal, under the number that the check gave
+pub unlisted : {k out : List ℕ} {n : ℕ} (start : ℕ) → Checked k n → n ≢ 0 → Lists k out out start (record { number = n; written = 0; total = 0 })
+unlisted start C ne = check-map C (λ e. (ap none e, refl)) (λ C. check-map C (λ e. (ap none e, refl)) (λ e. absurd (ne e)))
+  where
+    none : ℕ → Report
+    none n = record { number = n; written = 0; total = 0 }

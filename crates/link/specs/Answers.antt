@@ -1,24 +1,20 @@
 -- What receive answers as document 01's numbers, and what each of its parts does.
 use mathlib.Core.Path.{_≡_}
-use mathlib.Core.Logic.{_⊎_}
-use Prim.Native.Nat.{ℕ, _≤_, _<_}
+use Prim.Native.Nat.{ℕ, _<_}
 use mathlib.Core.List.{List}
 use lib.ListN.{length}
 use Rattle.model.specs.Tree.{Tree}
 use Rattle.model.specs.Supply.{Make}
 use Rattle.model.specs.Heap.{version}
 use Rattle.model.specs.Block.{heap, Shaped, SoundBlock}
-use Rattle.model.specs.Inbox.{batchOf, countOf, SoundInbox}
-use Rattle.model.specs.Numbers.{SHAPE, DAMAGED, VERSION, BATCH, COUNT, ZERO}
+use Rattle.model.specs.Inbox.{SoundInbox}
+use Rattle.model.specs.Numbers.{SHAPE, DAMAGED, VERSION}
 use Rattle.model.specs.Calls.{Check, Ending}
-use Rattle.model.specs.Link as link
-use Rattle.model.specs.Link.{frameRule, Step, PutsZero}
+use Rattle.model.specs.Link.{frameRule, Step}
 use Rattle.frame.specs.declared.Frame.{Frame}
 use Rattle.frame.specs.Fields.{fieldsOf}
-use Rattle.link.specs.declared.Heard.{Heard}
-
-abbrev pub heardOf : Heard → link.Heard
-heardOf a = record { number = a .number; again = a .again; missing = a .missing; place = a .place }
+use Rattle.judge.specs.declared.Heard.{Heard}
+use Rattle.judge.specs.Verdicts.{heardOf}
 
 -- block and inbox before and after a line, and the answer
 abbrev pub step : (b x b′ x′ : List ℕ) → Heard → Step
@@ -31,10 +27,6 @@ Ready b x v n =
     (Check (length x ≡ 130) (n ≡ SHAPE)
     (Check (SoundBlock b) (n ≡ DAMAGED) (Check (SoundInbox x) (n ≡ DAMAGED) (Check (v < 16) (n ≡ VERSION) (n ≡ 0)))))
 
--- the frame's batch and count are the inbox's, and it puts no zero; n is 0 where that is so
-abbrev pub Belongs : List ℕ → Frame → ℕ → Type 0
-Belongs x f n = Check (f .batch ≡ batchOf x) (n ≡ BATCH) (Check ((countOf x ≡ 0) ⊎ (countOf x ≡ f .count)) (n ≡ COUNT) (Check (¬ PutsZero (fieldsOf f)) (n ≡ ZERO) (n ≡ 0)))
-
 -- the rule of a frame on version v
 abbrev pub ruleOf : (b : List ℕ) (v : ℕ) → Frame → Make Tree
 ruleOf b v f = frameRule (fieldsOf f) (version (heap b) v)
@@ -42,12 +34,3 @@ ruleOf b v f = frameRule (fieldsOf f) (version (heap b) v)
 -- the edit of a frame: NO_ROOM and nothing changed, or the version becomes the rule's tree
 abbrev pub Editing : (b after : List ℕ) (v : ℕ) → Frame → ℕ → Type 0
 Editing b after v f n = Ending b after v (ruleOf b v f) n
-
--- a frame of the inbox's batch, and a block and an inbox that may take it
-pub record Fit (b x : List ℕ) (v : ℕ) (f : Frame) : Type 0 where
-  pub block : SoundBlock b
-  pub inbox : SoundInbox x
-  pub known : v < 16
-  pub counts : (countOf x ≡ 0) ⊎ (countOf x ≡ f .count)
-  pub small : f .count ≤ 4096
-  pub below : f .index < f .count

@@ -1,73 +1,55 @@
+-- The checks, then the value, then the place of the key.
+use native.Mathlib.Omega.{arith}
+use Rattle.model.proofs.Checks.{check-sound}
+use Rattle.kiosk.proofs.Calling.{insert-refused, insert-zero, insert-full, insert-done}
 use borrow.Author.Needs.{needs}
 use Rattle.kiosk.proofs.edits.insert.Statement.{statement}
 use Rattle.kiosk.proofs.edits.insert.Tie as tie
-use Rattle.kiosk.proofs.edits.insert.Reads as reads
-use Rattle.kiosk.proofs.edits.insert.Lts as lts
-use Rattle.kiosk.proofs.answers.refusal.Reads as refusal-reads
-use Rattle.kiosk.proofs.edits.put.Reads as put-reads
-use Rattle.kiosk.proofs.slice.check.Reads as check-reads
-use Rattle.kiosk.proofs.slice.place.Reads as place-reads
-use Rattle.kiosk.proofs.slice.value_at.Reads as value-at-reads
 
--- src/edits.rt:127:9
 check-requires : tie.Need-check-requires
 check-requires c κs = search needs
 
--- src/edits.rt:129:9
 refusal-requires : tie.Need-refusal-requires
 refusal-requires c κs = search needs
 
--- src/edits.rt:129:9
 same-length : tie.Need-same-length
 same-length c = search needs
 
--- src/edits.rt:129:9
 returns : tie.Need-returns
-returns c = ?
+returns c = insert-refused (c .before .before .check .ensures) (c .before .if1 .taken) (c .refusal .ensures) _ _
 
--- src/edits.rt:132:9
 refusal-requires-2 : tie.Need-refusal-requires-2
 refusal-requires-2 c κs = search needs
 
--- src/edits.rt:132:9
 same-length-2 : tie.Need-same-length-2
 same-length-2 c = search needs
 
--- src/edits.rt:132:9
 returns-2 : tie.Need-returns-2
-returns-2 c = ?
+returns-2 c = insert-zero (check-sound (c .before .before .before .check .ensures) (c .before .before .if1 .left)) _ _ (c .before .if2 .taken) (c .refusal2 .ensures)
 
--- src/edits.rt:134:9
 place-requires : tie.Need-place-requires
-place-requires c κs = ?
+place-requires c κs = check-sound (c .before .before .before .check .ensures) (c .before .before .if1 .left)
 
--- src/edits.rt:135:9
 value-at-requires : tie.Need-value-at-requires
-value-at-requires c κs = ?
+value-at-requires c κs = (check-sound (c .before .before .before .before .before .check .ensures) (c .before .before .before .before .if1 .left), c .before .place .ensures)
 
--- src/edits.rt:136:9
 put-requires : tie.Need-put-requires
-put-requires c κs = ?
+put-requires c κs = (check-sound (c .before .before .before .before .before .before .before .check .ensures) (c .before .before .before .before .before .before .if1 .left), c .before .before .before .place .ensures)
 
--- src/edits.rt:138:9
 refusal-requires-3 : tie.Need-refusal-requires-3
 refusal-requires-3 c κs = search needs
 
--- src/edits.rt:138:9
 same-length-3 : tie.Need-same-length-3
 same-length-3 c = search needs
 
--- src/edits.rt:138:9
 returns-3 : tie.Need-returns-3
-returns-3 c = ?
+returns-3 c = insert-full (check-sound (c .before .before .before .before .before .before .before .before .before .before .before .before .check .ensures) (c .before .before .before .before .before .before .before .before .before .before .before .if1 .left)) _ _ (c .before .before .before .before .before .before .before .before .before .before .if2 .left) (c .before .before .before .before .put .ensures) (c .before .if3 .taken) (c .refusal3 .ensures)
 
--- src/edits.rt:124:1
 same-length-4 : tie.Need-same-length-4
 same-length-4 c = search needs
 
--- src/edits.rt:124:1
 returns-4 : tie.Need-returns-4
-returns-4 c = ?
+returns-4 c = insert-done (check-sound (c .before .before .before .before .before .before .before .before .before .before .before .check .ensures) (c .before .before .before .before .before .before .before .before .before .before .if1 .left)) _ _ (c .before .before .before .before .before .before .before .before .before .if2 .left) (c .before .before .before .put .ensures) (c .if3 .left) (c .before .before .before .before .before .value-at .ensures)
 
 pub insert-spec : {M : Type 1} → statement M
 insert-spec =

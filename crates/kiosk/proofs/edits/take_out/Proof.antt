@@ -1,46 +1,41 @@
+-- Where the key stands its pair goes, and those behind it close up.
+use native.Mathlib.Omega.{arith}
+use Rattle.model.proofs.Tells.{tells-yes, tells-no}
+use Rattle.kiosk.proofs.Moving.{take-over, take-none}
 use borrow.Author.Needs.{needs}
 use Rattle.kiosk.proofs.edits.take_out.Statement.{statement}
 use Rattle.kiosk.proofs.edits.take_out.Tie as tie
-use Rattle.kiosk.proofs.edits.take_out.Reads as reads
-use Rattle.kiosk.proofs.edits.take_out.Lts as lts
-use Rattle.kiosk.proofs.edits.close_up.Reads as close-up-reads
-use Rattle.kiosk.proofs.slice.has.Reads as has-reads
 
--- src/edits.rt:99:9
 has-requires : tie.Need-has-requires
 has-requires c κs = search needs
 
--- src/edits.rt:100:9
 same-length : tie.Need-same-length
 same-length c = search needs
 
--- src/edits.rt:100:9
 returns : tie.Need-returns
-returns c = ?
+returns c = take-none (c .before .before .before .before .pre .0) (c .before .before .before .before .pre .1) (tells-no (c .before .has .result) (c .before .has .ensures) (c .if1 .taken))
 
--- src/edits.rt:102:13
 slice-read-n : tie.Need-slice-read-n
 slice-read-n c = search needs
 
--- src/edits.rt:103:5
 close-up-requires : tie.Need-close-up-requires
-close-up-requires c κs = ?
+close-up-requires c κs =
+    let S = c .before .before .before .before .before .before .pre .0 in
+    (S .long, S .few, tells-yes (c .before .before .before .has .result) (c .before .before .before .has .ensures) (c .before .before .if1 .left) .0)
 
--- src/edits.rt:104:12
 sub-k : tie.Need-sub-k
-sub-k c = ?
+sub-k c = omega (arith, tells-yes (c .before .before .before .before .before .before .has .result) (c .before .before .before .before .before .before .has .ensures) (c .before .before .before .before .before .if1 .left) .0)
 
--- src/edits.rt:104:5
 slice-write-k : tie.Need-slice-write-k
 slice-write-k c = search needs
 
--- src/edits.rt:95:1
 same-length-2 : tie.Need-same-length-2
 same-length-2 c = search needs
 
--- src/edits.rt:95:1
 returns-2 : tie.Need-returns-2
-returns-2 c = ?
+returns-2 c =
+    let y = tells-yes (c .before .before .before .before .before .before .has .result) (c .before .before .before .before .before .before .has .ensures) (c .before .before .before .before .before .if1 .left) in
+    take-over (c .before .before .before .before .before .before .before .before .before .pre .0) (c .before .before .before .before .before .before .before .before .before .pre .1) (y .0) (y .1) (c .before .before .close-up .ensures)
 
 pub take-out-spec : {M : Type 1} → statement M
 take-out-spec =
