@@ -34,6 +34,12 @@ extern "C" {
     fn ksk_ledger_settle(ledger: *mut u64, ledger_words: usize, block: *mut u32, words: usize, version: c_uint, call: c_uint, used: c_uint, table: *mut u32) -> c_uint;
     fn ksk_ledger_release(ledger: *mut u64, ledger_words: usize, block: *mut u32, words: usize, version: c_uint, call: c_uint, table: *mut u32) -> c_uint;
     fn ksk_ledger_account(ledger: *const u64, words: usize, account: c_uint, topped: *mut u64, spent: *mut u64, free: *mut u64) -> c_uint;
+    fn ksk_kiosk_fresh(kiosk: *mut u32, words: usize) -> c_uint;
+    fn ksk_kiosk_lookup(kiosk: *const u32, words: usize, key: c_uint, found: *mut u32, value: *mut u32) -> c_uint;
+    fn ksk_kiosk_insert(kiosk: *mut u32, words: usize, key: c_uint, value: c_uint, had: *mut u32, old: *mut u32) -> c_uint;
+    fn ksk_kiosk_remove(kiosk: *mut u32, words: usize, key: c_uint, had: *mut u32, old: *mut u32) -> c_uint;
+    fn ksk_kiosk_list(kiosk: *const u32, words: usize, start: c_uint, out: *mut u32, out_words: usize, written: *mut u32, total: *mut u32) -> c_uint;
+    fn ksk_kiosk_receive(kiosk: *mut u32, words: usize, inbox: *mut u32, inbox_words: usize, line: *const u8, bytes: usize, again: *mut u32, missing: *mut u32, place: *mut u32) -> c_uint;
 }
 
 /// Why a call was refused. Nothing has changed.
@@ -439,5 +445,55 @@ impl Ledger {
         let [mut topped, mut spent, mut free] = [0; 3];
         carried(unsafe { ksk_ledger_account(self.words.as_ptr(), self.words.len(), account, &mut topped, &mut spent, &mut free) }, 0)?;
         Ok(Totals { topped, spent, free })
+    }
+}
+
+/// A table of at most 64 entries with no versions and no nodes.
+pub struct Kiosk {
+    words: [u32; 129],
+}
+
+impl Kiosk {
+    pub fn fresh() -> Kiosk {
+        let mut kiosk = Kiosk { words: [0; 129] };
+        done(unsafe { ksk_kiosk_fresh(kiosk.words.as_mut_ptr(), kiosk.words.len()) }).expect("a kiosk has 129 words");
+        kiosk
+    }
+
+    pub fn lookup(&self, key: u32) -> Result<Option<u32>, Refusal> {
+        let (mut had, mut value) = (0, 0);
+        done(unsafe { ksk_kiosk_lookup(self.words.as_ptr(), self.words.len(), key, &mut had, &mut value) })?;
+        Ok(found(had, value))
+    }
+
+    /// Puts `value` under `key`; answers what stood there. A value of 0 is `Refusal::Zero`, a new key that meets 64 entries `Refusal::NoRoom`.
+    pub fn insert(&mut self, key: u32, value: u32) -> Result<Option<u32>, Refusal> {
+        let (mut had, mut old) = (0, 0);
+        done(unsafe { ksk_kiosk_insert(self.words.as_mut_ptr(), self.words.len(), key, value, &mut had, &mut old) })?;
+        Ok(found(had, old))
+    }
+
+    /// Takes `key` out; answers what stood there.
+    pub fn remove(&mut self, key: u32) -> Result<Option<u32>, Refusal> {
+        let (mut had, mut old) = (0, 0);
+        done(unsafe { ksk_kiosk_remove(self.words.as_mut_ptr(), self.words.len(), key, &mut had, &mut old) })?;
+        Ok(found(had, old))
+    }
+
+    /// All entries, ascending.
+    pub fn list(&self) -> Result<Vec<Entry>, Refusal> {
+        let mut out = [0; 4 * 64];
+        let (mut written, mut total) = (0, 0);
+        done(unsafe { ksk_kiosk_list(self.words.as_ptr(), self.words.len(), 0, out.as_mut_ptr(), out.len(), &mut written, &mut total) })?;
+        Ok(out[..written as usize].chunks(4).map(|e| Entry { key: e[0], left: e[1], right: found(e[2], e[3]) }).collect())
+    }
+
+    /// Hears one line.
+    pub fn receive(&mut self, inbox: &mut Inbox, line: &[u8]) -> Result<Heard, Refusal> {
+        let (mut again, mut missing, mut place) = (0, 0, 0);
+        let (kiosk, words) = (self.words.as_mut_ptr(), self.words.len());
+        let number = unsafe { ksk_kiosk_receive(kiosk, words, inbox.words.as_mut_ptr(), inbox.words.len(), line.as_ptr(), line.len(), &mut again, &mut missing, &mut place) };
+        heard(number, place)?;
+        Ok(Heard { again: again == 1, missing })
     }
 }

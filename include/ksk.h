@@ -21,11 +21,11 @@ extern "C" {
 /* Numbers a call gives back, in the order in which they are checked: 1, 2, 3, 4, 16, 13, 14, 7 or 15, 10, 11, 12, 8, 9, 13 of a line, 6, 5.
  * Restore: 1, 2, 3, then the first faulty line, of which 17 goes before 13 and 13 before 18, then 5. */
 #define KSK_DONE     0u
-#define KSK_SHAPE    1u /* block length or N is wrong, or inbox not 130 words */
-#define KSK_DAMAGED  2u /* block not sound, or inbox not sound */
+#define KSK_SHAPE    1u /* block length or N is wrong, kiosk not 129 words, or inbox not 130 words */
+#define KSK_DAMAGED  2u /* block, kiosk or inbox not sound */
 #define KSK_VERSION  3u /* a version number above 15 */
 #define KSK_RULE     4u /* unknown rule, or cancelling with difference rule 2 */
-#define KSK_NO_ROOM  5u /* a node was to be made and none was free; 3 free nodes for each level of the tree and one more are enough for insert and remove */
+#define KSK_NO_ROOM  5u /* a node was to be made and none was free; 3 free nodes for each level of the tree and one more are enough for insert and remove; a kiosk: a new key and 64 entries */
 #define KSK_TOO_DEEP 6u /* a listing walk has more than 64 pending items on one side */
 #define KSK_FRAME    7u /* a line is not 35 bytes or has no closing newline */
 #define KSK_BATCH    8u /* another batch number */
@@ -55,6 +55,7 @@ extern "C" {
 #define KSK_VERSIONS       16u
 #define KSK_BLOCK_WORDS(n) (17u + (n) / 32u + 8u * (n))
 #define KSK_INBOX_WORDS    130u
+#define KSK_KIOSK_WORDS    129u /* the number of entries, then 64 pairs of key and value */
 #define KSK_LEDGER_WORDS(accounts) (3u * (accounts)) /* words of 64 bits: topped-up, spent and free minutes of each account */
 #define KSK_ENTRY_WORDS    4u  /* a listing's entry: key, left value, 1 if common else 0, right value or 0 */
 #define KSK_RECORD_WORDS   3u  /* a batch's record: kind, key, value; the value of a remove is not read */
@@ -166,6 +167,27 @@ uint32_t ksk_ledger_release(uint64_t *ledger, size_t ledger_words, uint32_t *blo
 
 /* An account's totals. */
 uint32_t ksk_ledger_account(const uint64_t *ledger, size_t words, uint32_t account, uint64_t *topped, uint64_t *spent, uint64_t *free);
+
+/* The kiosk: a table of at most 64 entries in KSK_KIOSK_WORDS words of its own, with no versions and no nodes. It is sound when the number of entries is at most 64, keys strictly ascend and
+ * unused pairs are zero. Lines and inbox are the table's. From a fresh kiosk and a begun inbox its calls answer what the same calls on one version of a table would answer, as long as neither refuses for room. */
+
+/* Writes zeros: no entries. */
+uint32_t ksk_kiosk_fresh(uint32_t *kiosk, size_t words);
+
+/* The value under a key: found is 1 or 0. */
+uint32_t ksk_kiosk_lookup(const uint32_t *kiosk, size_t words, uint32_t key, uint32_t *found, uint32_t *value);
+
+/* Puts value under key; had and old tell what stood there. A value of 0 is KSK_ZERO; a new key that meets 64 entries is KSK_NO_ROOM. */
+uint32_t ksk_kiosk_insert(uint32_t *kiosk, size_t words, uint32_t key, uint32_t value, uint32_t *had, uint32_t *old);
+
+/* Takes a key out; an absent key changes nothing. */
+uint32_t ksk_kiosk_remove(uint32_t *kiosk, size_t words, uint32_t key, uint32_t *had, uint32_t *old);
+
+/* Lists the entries as ksk_list does against an empty version: key, value, 0, 0. written counts words. */
+uint32_t ksk_kiosk_list(const uint32_t *kiosk, size_t words, uint32_t start, uint32_t *out, size_t out_words, uint32_t *written, uint32_t *total);
+
+/* Hears one line, as ksk_receive does; KSK_SHAPE and KSK_DAMAGED are asked of the kiosk before the inbox. */
+uint32_t ksk_kiosk_receive(uint32_t *kiosk, size_t words, uint32_t *inbox, size_t inbox_words, const uint8_t *line, size_t bytes, uint32_t *repeat, uint32_t *missing, uint32_t *place);
 
 #ifdef __cplusplus
 }

@@ -24,7 +24,7 @@ use Rattle.frame.specs.declared.Fault.{Fault}
 use Rattle.frame.specs.Fields.{fieldsOf}
 use Rattle.judge.specs.declared.Verdict.{Verdict}
 use Rattle.judge.specs.declared.Verdict.the-variants.{Refused, Repeat, New}
-use Rattle.judge.specs.Verdicts.{Belongs, Said, refused, repeat, new, saidOf, Judgement, Fit}
+use Rattle.judge.specs.Verdicts.{Belongs, refused, repeat, new, saidOf, Judgement, Fit}
 
 -- a count that is known agrees where it is the same
 pub count-told : (x : List ℕ) (count : ℕ) → countOf x ≢ 0 → Tells (eqb (countOf x) count) ((countOf x ≡ 0) ⊎ (countOf x ≡ count))

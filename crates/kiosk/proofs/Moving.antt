@@ -2,14 +2,13 @@
 use mathlib.Core.Path.{_≡_, refl, ap, sym, subst, _∙_}
 use mathlib.Core.Logic.{_≢_}
 use Prim.Native.Nat.{ℕ, zero, suc, _+_, _-_, _*_, _≤_, _<_}
-use mathlib.Core.Bool.{Bool}
 use mathlib.Core.Option.{none, some}
-use mathlib.Core.List.{List, [], _∷_, _++_}
-use lib.ListN.{length, getD, set, replicate, length-set}
+use mathlib.Core.List.{List, _∷_, _++_}
+use lib.ListN.{length, set, replicate, length-set}
 use lib.Seq.{getD-set-same, getD-set-other}
 use native.Mathlib.Omega.{arith}
 use native.Mathlib.Decide.{ℕ-discrete, decLt}
-use Rattle.model.specs.Tree.{Cut, cut, put, without, setBy}
+use Rattle.model.specs.Tree.{Cut, put, without, setBy}
 use Rattle.model.specs.Block.{word}
 use Rattle.model.specs.Calls.{fails, passes}
 use Rattle.model.specs.Kiosk.{count, keyAt, valueAt, pairsFrom, pairs, SoundKiosk, emptyKiosk, Holds}
@@ -178,8 +177,10 @@ module _ {k : List ℕ} {key i : ℕ} (S : SoundKiosk k) (P : Place k key i) whe
           let n : count k - 1 ≡ i + (count k - suc i) = omega arith in
           let z : 0 + i ≡ i = omega arith in
           ap (pairsFrom (set c 0 (count k - 1)) 0) n ∙ pairs-split (set c 0 (count k - 1)) 0 i (count k - suc i) ∙ ap (λ j. pairsFrom (set c 0 (count k - 1)) 0 i ++ pairsFrom (set c 0 (count k - 1)) j (count k - suc i)) z
-          ∙ rw (pairs-same (set c 0 (count k - 1)) k 0 0 i (λ t p. (other (1 + 2 * (0 + t)) (λ d. omega arith) ∙ C .before (1 + 2 * (0 + t)) (omega arith), other (2 + 2 * (0 + t)) (λ d. omega arith) ∙ C .before (2 + 2 * (0 + t)) (omega arith))),
-                pairs-same (set c 0 (count k - 1)) k i (suc i) (count k - suc i) (λ t p. (lower (1 + 2 * (suc i + t)) (1 + 2 * (i + t)) (omega arith) (omega arith) (omega arith), lower (2 + 2 * (suc i + t)) (2 + 2 * (i + t)) (omega arith) (omega arith) (omega arith))))
+          ∙ rw (
+            pairs-same (set c 0 (count k - 1)) k 0 0 i (λ t p. (other (1 + 2 * (0 + t)) (λ d. omega arith) ∙ C .before (1 + 2 * (0 + t)) (omega arith), other (2 + 2 * (0 + t)) (λ d. omega arith) ∙ C .before (2 + 2 * (0 + t)) (omega arith))),
+            pairs-same (set c 0 (count k - 1)) k i (suc i) (count k - suc i) (λ t p. (lower (1 + 2 * (suc i + t)) (1 + 2 * (i + t)) (omega arith) (omega arith) (omega arith), lower (2 + 2 * (suc i + t)) (2 + 2 * (i + t)) (omega arith) (omega arith) (omega arith))),
+          )
           (ap (λ (c : Cut). c .before ++ c .after) (sym (cut-has P h e)))
 
   -- an absent key changes nothing

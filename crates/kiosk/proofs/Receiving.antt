@@ -1,9 +1,8 @@
 -- A line from its checks to its end: a refusal changes nothing, and only a line whose edit is done is marked.
-use mathlib.Core.Path.{_≡_, refl, ap, sym, subst, _∙_}
+use mathlib.Core.Path.{_≡_, refl, ap, _∙_}
 use mathlib.Core.Logic.{_≢_}
 use Prim.Native.Nat.{ℕ}
 use mathlib.Core.List.{List}
-use Rattle.model.specs.Frame as lines
 use Rattle.model.specs.Frame.{read}
 use Rattle.model.specs.Inbox.{SoundInbox, marked, missing}
 use Rattle.model.specs.Calls.{passes}

@@ -4,14 +4,13 @@ use Prim.Native.Nat.{ℕ, zero, suc, _+_, _-_, _*_, _/_, _≤_, _<_, min}
 use mathlib.Core.List.{List, [], _∷_, _++_, map, append-assoc, append-nil}
 use native.Mathlib.Omega.{arith}
 use lib.ListN.{length, getD, take, drop, set, length-append, length-drop, length-map}
-use lib.Seq.{sets, sets-eq, take-at, drop-append-add, drop-drop, getD-drop}
-use Rattle.model.specs.Tree.{Entry}
-use Rattle.model.specs.Lists.{Report, laid, part, over}
+use lib.Seq.{sets-eq, take-at, drop-append-add, drop-drop, getD-drop}
+use Rattle.model.specs.Lists.{Report, laid, part}
 use Rattle.model.specs.Calls.{passes}
 use mathlib.Core.Logic.{_≢_}
 use Rattle.model.proofs.Checks.{check-map}
-use Rattle.model.specs.Kiosk.{count, keyAt, valueAt, pairsFrom, pairs, entryWords, SoundKiosk, Checked, Lists}
-use Rattle.model.proofs.Cutting.{map-at, take-min, Wide, wide-map, wide-drop, laid-long}
+use Rattle.model.specs.Kiosk.{count, keyAt, valueAt, pairs, entryWords, SoundKiosk, Checked, Lists}
+use Rattle.model.proofs.Cutting.{map-at, take-min, wide-map, wide-drop, laid-long}
 use Rattle.model.proofs.Pairs.{length-pairs, pairs-at}
 
 -- four stores

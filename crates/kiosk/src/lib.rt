@@ -10,6 +10,6 @@ pub use edits::fresh;
 pub use edits::insert;
 pub use edits::remove;
 pub use lines::receive;
+pub use reads::Report;
 pub use reads::list;
 pub use reads::lookup;
-pub use reads::Report;

@@ -1,48 +1,30 @@
 -- A line from its checks to its end: a refusal changes nothing, and only a line whose edit is done is marked.
-use mathlib.Core.Path.{_≡_, refl, ap, sym, subst, _∙_}
-use mathlib.Core.Logic.{_≢_, _⊎_, inr, ⊎-elim}
+use mathlib.Core.Path.{_≡_, refl, ap, subst, _∙_}
+use mathlib.Core.Logic.{_≢_}
 use Prim.Native.Nat.{ℕ, _<_}
-use mathlib.Core.Bool.{true, false}
 use mathlib.Core.List.{List}
-use lib.Dec.{eqb, ltb}
-use native.Mathlib.Omega.{arith}
-use native.Mathlib.Decide.{ℕ-discrete}
 use Rattle.model.specs.Block.{SoundBlock}
 use Rattle.model.specs.Frame as lines
-use Rattle.model.specs.Frame.{Reading, good, fault}
-use Rattle.model.specs.Inbox.{countOf, heardAt, SoundInbox, marked, missing}
+use Rattle.model.specs.Frame.{Reading, good, fault, read}
+use Rattle.model.specs.Inbox.{SoundInbox, marked, missing}
 use Rattle.model.specs.Calls.{passes}
 use Rattle.model.specs.Link as link
-use Rattle.model.specs.Link.{Parse, turnedAway, Takes, PutsZero, Says, Receive}
-use Rattle.model.specs.Tells.{Tells}
+use Rattle.model.specs.Link.{Parse, Step, turnedAway, refusedAt, repeated, Takes, Says, Receive}
 use Rattle.model.proofs.Checks.{check-map, check-holds, check-next}
-use Rattle.model.proofs.Tells.{tells-eqb, tells-ltb}
-use Rattle.model.proofs.Heard.{Markable}
-use Rattle.model.proofs.Lines.{legal-exactly, good-parse, parse-only}
+use mathlib.Core.Bool.{false}
 use Rattle.frame.specs.declared.Frame.{Frame}
+use Rattle.frame.specs.declared.Fault.{Fault}
 use Rattle.frame.specs.Fields.{fieldsOf}
-use Rattle.link.specs.declared.Heard.{Heard}
-use Rattle.link.specs.Answers.{heardOf, step, Ready, Belongs, Editing, Fit}
+use Rattle.judge.specs.declared.Heard.{Heard}
+use Rattle.judge.specs.declared.Verdict.{Verdict}
+use Rattle.judge.specs.declared.Verdict.the-variants.{Refused, Repeat, New}
+use Rattle.judge.specs.Verdicts.{heardOf, Judgement, saidOf, Fit}
+use Rattle.judge.proofs.Lines.{as-refused, as-repeat, as-new, new-fit, no-room, was-done}
+use Rattle.link.specs.Answers.{step, Ready, Editing}
 
--- the fields of an answer to a line that has no bad digit
-abbrev told : (number again missing : ℕ) → link.Heard
-told number again missing = record { number = number; again = again; missing = missing; place = 0 }
-
--- a count that is known agrees where it is the same
-pub count-told : (x : List ℕ) (count : ℕ) → countOf x ≢ 0 → Tells (eqb (countOf x) count) ((countOf x ≡ 0) ⊎ (countOf x ≡ count))
-count-told x count ne = tells-eqb (countOf x) count inr (⊎-elim (λ e. absurd (ne e)) (λ e. e))
-
--- a put puts no zero where its value is above 0
-pub worth-told : (f : lines.Frame) → f .kind ≡ 1 → Tells (ltb 0 (f .value)) (¬ PutsZero f)
-worth-told f k = tells-ltb 0 (f .value) (λ h z. omega (arith, z .1)) (λ n. go n (ℕ-discrete (f .value) 0))
-  where
-    go : ¬ PutsZero f → Dec (f .value ≡ 0) → 0 < f .value
-    go n (yes e) = absurd (n (k, e))
-    go n (no e) = omega arith
-
--- a refusal, under the number that the check gave
-away : {b x : List ℕ} {a : Heard} {n m : ℕ} → heardOf a ≡ told n 0 0 → n ≡ m → turnedAway (step b x b x a) m
-away q e = (q ∙ ap (λ n. told n 0 0) e, refl, refl)
+-- a refusal's fields
+abbrev told : (number place : ℕ) → link.Heard
+told number place = record { number = number; again = 0; missing = 0; place = place }
 
 -- a line on its own
 pub parsed-fault : {r : Reading} (n p : ℕ) → fault n p ≡ r → Parse r n (record { batch = 0; index = 0; count = 0; kind = 0; key = 0; value = 0 }) p
@@ -63,49 +45,44 @@ ready-checked R z =
     let inbox = check-next 1 sound z in
     record { block = check-holds 1 sound z; inbox = check-holds 1 inbox z; known = check-holds 2 (check-next 1 inbox z) z }
 
-pub not-ready : {b x : List ℕ} {v n : ℕ} {a : Heard} (line : List ℕ) → Ready b x v n → n ≢ 0 → heardOf a ≡ told n 0 0 → Receive (step b x b x a) v line
-not-ready line R ne q =
-    check-map R (away q) (λ R. check-map R (away q) (λ R. check-map R (away q) (λ R. check-map R (away q) (λ R. check-map R (away q) (λ e. absurd (ne e))))))
+pub not-ready : {b x : List ℕ} {v n : ℕ} {a : Heard} (line : List ℕ) → Ready b x v n → n ≢ 0 → heardOf a ≡ told n 0 → Receive (step b x b x a) v line
+not-ready {b} {x} {v} {n} {a} line R ne q = check-map R away (λ R. check-map R away (λ R. check-map R away (λ R. check-map R away (λ R. check-map R away (λ e. absurd (ne e))))))
+  where
+    away : {m : ℕ} → n ≡ m → turnedAway (step b x b x a) m
+    away e = (q ∙ ap (λ n. told n 0) e, refl, refl)
 
 -- the line's own part of receive
-module _ {b x : List ℕ} {v : ℕ} (C : Checked b x v) (line : List ℕ) where
-  says : {b′ x′ : List ℕ} (a : Heard) {r : Reading} → r ≡ lines.read line → Says (step b x b′ x′ a) v r → Receive (step b x b′ x′ a) v line
-  says {b′} {x′} a e S = passes (C .block .shaped) (passes (C .inbox .long) (passes (C .block) (passes (C .inbox) (passes (C .known) (subst (Says (step b x b′ x′ a) v) e S)))))
+module _ {b x : List ℕ} {v : ℕ} (C : Checked b x v) (line : List ℕ) (w : Verdict) (J : Judgement x w (read line)) where
+  says : {b′ x′ : List ℕ} (a : Heard) → Says (step b x b′ x′ a) v (read line) → Receive (step b x b′ x′ a) v line
+  says a S = passes (C .block .shaped) (passes (C .inbox .long) (passes (C .block) (passes (C .inbox) (passes (C .known) S))))
 
-  pub malformed : {a : Heard} (n p : ℕ) → fault n p ≡ lines.read line → heardOf a ≡ record { number = n; again = 0; missing = 0; place = p } → Receive (step b x b x a) v line
-  malformed {a} n p e q = says a e (q, refl, refl)
+  -- what is done with a new line
+  abbrev New-line : Step → lines.Frame → Type 0
+  New-line s f = Takes s v f false
 
-  -- a line that says f
-  module _ (f : Frame) (e : good (fieldsOf f) ≡ lines.read line) {n : ℕ} (B : Belongs x f n) where
-    pub foreign : {a : Heard} → n ≢ 0 → heardOf a ≡ told n 0 0 → Receive (step b x b x a) v line
-    foreign {a} ne q = says a e (check-map B (away q) (λ B. check-map B (away q) (λ B. check-map B (away q) (λ z. absurd (ne z)))))
+  pub refused-line : (g : Fault) → w ≡ Refused g → {a : Heard} → heardOf a ≡ told (g .number) (g .place) → Receive (step b x b x a) v line
+  refused-line g e {a} q =
+      let s = step b x b x a in
+      says a (as-refused x (refusedAt s) (repeated s) (New-line s) w (read line) (g .number) (g .place) (ap saidOf e) J (q, refl, refl))
 
-    pub taken : {b′ x′ : List ℕ} {a : Heard} → n ≡ 0 → Takes (step b x b′ x′ a) v (fieldsOf f) (heardAt x (f .index)) → Receive (step b x b′ x′ a) v line
-    taken {a = a} z T =
-        let C = check-next 7 B z in
-        says a e (passes (check-holds 7 B z) (passes (check-holds 8 C z) (passes (check-holds 12 (check-next 8 C z) z) T)))
+  pub repeated-line : w ≡ Repeat → {a : Heard} → heardOf a ≡ record { number = 0; again = 1; missing = missing x; place = 0 } → Receive (step b x b x a) v line
+  repeated-line e {a} q =
+      let s = step b x b x a in
+      says a (as-repeat x (refusedAt s) (repeated s) (New-line s) w (read line) (ap saidOf e) J (q, refl, refl))
 
-    -- it was parsed, so it is legal, and its index has a bit
-    pub fit : n ≡ 0 → Fit b x v f
-    fit z =
-        let legal = legal-exactly (fieldsOf f) .0 (parse-only line (fieldsOf f) (good-parse line (fieldsOf f) .1 (sym e)) .1) in
-        record { block = C .block; inbox = C .inbox; known = C .known; counts = check-holds 8 (check-next 7 B z) z; small = legal .most; below = legal .below }
+  module _ (f : Frame) (e : w ≡ New f) where
+    pub fit : Fit x (f .count) (f .index)
+    fit = new-fit x line w (fieldsOf f) (C .inbox) (ap saidOf e) J
 
--- what hear answers of a repeat, where the edit found no room, and where it was done
-module _ {b x : List ℕ} {v : ℕ} {f : Frame} (F : Fit b x v f) where
-  pub repeated : {m : ℕ} → heardAt x (f .index) ≡ true → m ≡ missing x → Takes (step b x b x (record { number = 0; again = 1; missing = m; place = 0 })) v (fieldsOf f) (heardAt x (f .index))
-  repeated {m} e q = subst (Takes (step b x b x (record { number = 0; again = 1; missing = m; place = 0 })) v (fieldsOf f)) (sym e) (ap (told 0 1) q, refl, refl)
+    new-line : {b′ x′ : List ℕ} (a : Heard) → New-line (step b x b′ x′ a) (fieldsOf f) → Receive (step b x b′ x′ a) v line
+    new-line {b′} {x′} a T =
+        let s = step b x b′ x′ a in
+        says a (as-new x (refusedAt s) (repeated s) (New-line s) w (read line) (fieldsOf f) (ap saidOf e) J T)
 
-  module _ (new : heardAt x (f .index) ≡ false) where
-    -- its index may be marked
-    pub markable : Markable x (f .count) (f .index)
-    markable = record { sound = F .inbox; small = F .small; below = F .below; counts = F .counts; new = new }
+    module _ {after : List ℕ} {m : ℕ} (E : Editing b after v f m) where
+      pub full-line : {a : Heard} → m ≢ 0 → heardOf a ≡ told m 0 → Receive (step b x after x a) v line
+      full-line {a} ne q = new-line a (no-room (step b x after x a) (fieldsOf f) E ne q refl)
 
-    module _ {after : List ℕ} {n : ℕ} (E : Editing b after v f n) where
-      pub full : {a : Heard} → n ≢ 0 → heardOf a ≡ told n 0 0 → Takes (step b x after x a) v (fieldsOf f) (heardAt x (f .index))
-      full {a} ne q = subst (Takes (step b x after x a) v (fieldsOf f)) (sym new) (check-map E (λ e. (q ∙ ap (λ n. told n 0 0) (e .0), e .1, refl)) (λ e. absurd (ne (e .0))))
-
-      pub done : {y : List ℕ} {m : ℕ} → n ≡ 0 → y ≡ marked x (f .count) (f .index) → m ≡ missing y → Takes (step b x after y (record { number = 0; again = 0; missing = m; place = 0 })) v (fieldsOf f) (heardAt x (f .index))
-      done {y} {m} z e q =
-          subst (Takes (step b x after y (record { number = 0; again = 0; missing = m; place = 0 })) v (fieldsOf f)) (sym new)
-          (check-map E (λ u. let five : _≡_ {A = ℕ} 5 0 = sym (u .0) ∙ z in absurd (omega arith)) (λ u. (ap (told 0 0) (q ∙ ap missing e), u .1, e)))
+      pub done-line : {a : Heard} {y : List ℕ} → m ≡ 0 → y ≡ marked x (f .count) (f .index) → heardOf a ≡ record { number = 0; again = 0; missing = missing (marked x (f .count) (f .index)); place = 0 }
+          → Receive (step b x after y a) v line
+      done-line {a} {y} z d q = new-line a (was-done (step b x after y a) (fieldsOf f) E z q d)

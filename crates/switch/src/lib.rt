@@ -6,6 +6,7 @@ ghost use Rattle.model.specs.Frame.{read};
 ghost use Rattle.model.specs.Lists.{Lists, listed, framed, Same};
 ghost use Rattle.model.specs.Link.{Parse, Begin, Missing, Receive};
 ghost use Rattle.model.specs.Request.{Ask, Resend};
+ghost use Rattle.model.specs.Kiosk as flat;
 ghost use Rattle.ledger.specs.Ledger as totals;
 ghost use Rattle.switch.specs.Cancels.{ruleFor};
 ghost use lib.Dec.{eqb};
@@ -428,5 +429,88 @@ pub extern "C" fn ksk_ledger_account(
     *topped = a.topped;
     *spent = a.spent;
     *free = a.free;
+    a.number
+}
+
+// A kiosk with no entries.
+#[no_mangle]
+pub extern "C" fn ksk_kiosk_fresh(kiosk: &mut [u32]) -> u32
+    ensures { λ r. ⌜ flat.Fresh (now (kiosk .entry)) (now (kiosk .exit)) r ⌝ }
+{
+    kiosk::fresh(kiosk)
+}
+
+// The value under a key of a kiosk.
+#[no_mangle]
+pub extern "C" fn ksk_kiosk_lookup(kiosk: &[u32], key: u32, found: &mut u32, value: &mut u32) -> u32
+    ensures { λ r. ⌜ flat.Lookup (now (kiosk .entry)) key (record { number = r; found = now (found .exit); value = now (value .exit) }) ⌝ }
+{
+    let a = kiosk::lookup(kiosk, key);
+    *found = a.found;
+    *value = a.value;
+    a.number
+}
+
+// A key put into a kiosk.
+#[no_mangle]
+pub extern "C" fn ksk_kiosk_insert(
+    kiosk: &mut [u32],
+    key: u32,
+    value: u32,
+    had: &mut u32,
+    old: &mut u32,
+) -> u32
+    ensures { λ r. ⌜ flat.Insert (now (kiosk .entry)) (now (kiosk .exit)) key value (record { number = r; found = now (had .exit); value = now (old .exit) }) ⌝ }
+{
+    let a = kiosk::insert(kiosk, key, value);
+    *had = a.found;
+    *old = a.value;
+    a.number
+}
+
+// A key taken out of a kiosk.
+#[no_mangle]
+pub extern "C" fn ksk_kiosk_remove(kiosk: &mut [u32], key: u32, had: &mut u32, old: &mut u32) -> u32
+    ensures { λ r. ⌜ flat.Remove (now (kiosk .entry)) (now (kiosk .exit)) key (record { number = r; found = now (had .exit); value = now (old .exit) }) ⌝ }
+{
+    let a = kiosk::remove(kiosk, key);
+    *had = a.found;
+    *old = a.value;
+    a.number
+}
+
+// The entries of a kiosk.
+#[no_mangle]
+pub extern "C" fn ksk_kiosk_list(
+    kiosk: &[u32],
+    start: u32,
+    out: &mut [u32],
+    written: &mut u32,
+    total: &mut u32,
+) -> u32
+    ensures { λ r. ⌜ flat.Lists (now (kiosk .entry)) (now (out .entry)) (now (out .exit)) start (record { number = r; written = now (written .exit); total = now (total .exit) }) ⌝ }
+{
+    let a = kiosk::list(kiosk, start, out);
+    *written = a.written;
+    *total = a.total;
+    a.number
+}
+
+// One line heard at a kiosk.
+#[no_mangle]
+pub extern "C" fn ksk_kiosk_receive(
+    kiosk: &mut [u32],
+    inbox: &mut [u32],
+    line: &[u8],
+    repeat: &mut u32,
+    missing: &mut u32,
+    place: &mut u32,
+) -> u32
+    ensures { λ r. ⌜ flat.Receive (record { block = now (kiosk .entry); inbox = now (inbox .entry); block′ = now (kiosk .exit); inbox′ = now (inbox .exit); answer = record { number = r; again = now (repeat .exit); missing = now (missing .exit); place = now (place .exit) } }) (now (line .entry)) ⌝ }
+{
+    let a = kiosk::receive(kiosk, inbox, line);
+    *repeat = a.again;
+    *missing = a.missing;
+    *place = a.place;
     a.number
 }

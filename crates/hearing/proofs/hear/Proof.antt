@@ -1,7 +1,7 @@
 -- A line once a batch has begun; else a malformed line, or the one to begin with.
 use borrow.Author.Needs.{needs}
 use Rattle.frame.specs.Fields.{fieldsOf}
-use Rattle.link.specs.Answers.{heardOf}
+use Rattle.judge.specs.Verdicts.{heardOf}
 use Rattle.hearing.proofs.Hearing.{runs-hears, runs-waits, runs-begins}
 use Rattle.hearing.proofs.hear.Statement.{statement}
 use Rattle.hearing.proofs.hear.Tie as tie

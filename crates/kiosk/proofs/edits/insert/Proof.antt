@@ -1,5 +1,4 @@
 -- The checks, then the value, then the place of the key.
-use native.Mathlib.Omega.{arith}
 use Rattle.model.proofs.Checks.{check-sound}
 use Rattle.kiosk.proofs.Calling.{insert-refused, insert-zero, insert-full, insert-done}
 use borrow.Author.Needs.{needs}

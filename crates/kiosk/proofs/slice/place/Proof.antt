@@ -36,7 +36,7 @@ shared-slice-read-if1 c = omega arith
 returns : tie.Need-returns Inv-loop μ-loop
 returns c =
     let l = c .before .before .before in
-    record { within = omega (arith, l .loop .inv .0, l .before .wide .ensures); below = l .loop .inv .1; from = λ h. c .if1 .taken }
+    record { within = omega (arith, l .loop .inv .0, l .before .wide .ensures); below = l .loop .inv .1; from = λ h. omega (arith, c .if1 .taken) }
 
 add-i : tie.Need-add-i Inv-loop μ-loop
 add-i c = omega arith
