@@ -4,3 +4,4 @@ pub mod Moving
 pub mod Writing
 pub mod Calling
 pub mod Receiving
+pub mod Refusals
