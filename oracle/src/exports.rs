@@ -1,5 +1,5 @@
 //! The exported calls. A slice crosses as pointer and length, a field as a pointer. The declarations that are `pub` are what
-//! the comparison of minutes held calls in its own way.
+//! the comparisons of minutes held and of kiosks call in their own way.
 
 use crate::call::{Call, Reply};
 use crate::frame::Frame;
@@ -101,6 +101,30 @@ extern "C" {
         written: *mut u32,
         total: *mut u32,
     ) -> u32;
+    pub fn ksk_kiosk_fresh(kiosk: *mut u32, words: usize) -> u32;
+    pub fn ksk_kiosk_lookup(kiosk: *const u32, words: usize, key: u32, found: *mut u32, value: *mut u32) -> u32;
+    pub fn ksk_kiosk_insert(kiosk: *mut u32, words: usize, key: u32, value: u32, had: *mut u32, old: *mut u32) -> u32;
+    pub fn ksk_kiosk_remove(kiosk: *mut u32, words: usize, key: u32, had: *mut u32, old: *mut u32) -> u32;
+    pub fn ksk_kiosk_list(
+        kiosk: *const u32,
+        words: usize,
+        start: u32,
+        out: *mut u32,
+        room: usize,
+        written: *mut u32,
+        total: *mut u32,
+    ) -> u32;
+    pub fn ksk_kiosk_receive(
+        kiosk: *mut u32,
+        words: usize,
+        inbox: *mut u32,
+        inbox_words: usize,
+        line: *const u8,
+        bytes: usize,
+        repeat: *mut u32,
+        missing: *mut u32,
+        place: *mut u32,
+    ) -> u32;
 }
 
 pub fn fresh(block: &mut [u32], n: u32) -> u32 {
@@ -124,7 +148,7 @@ pub fn restore(block: &mut [u32], version: u32, text: &mut [u8]) -> (u32, u64) {
 }
 
 /// What fields hold before a call: a refusal must set them to zero, not leave them.
-const STALE: u32 = 0xdead_beef;
+pub const STALE: u32 = 0xdead_beef;
 
 pub fn missing(inbox: &[u32]) -> (u32, u32) {
     let mut missing = STALE;

@@ -7,6 +7,7 @@ pub mod exports;
 pub mod fast;
 pub mod frame;
 pub mod history;
+pub mod kiosk;
 pub mod ledger;
 pub mod original;
 pub mod parts;

@@ -8,6 +8,7 @@ pub mod drift;
 pub mod exhaustive;
 pub mod held;
 pub mod histories;
+pub mod kiosk;
 pub mod ledger;
 pub mod limits;
 pub mod lines;

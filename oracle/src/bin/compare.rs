@@ -1,7 +1,7 @@
 //! Compares the exported calls with the original and with documents 01 and 02. Usage: compare [seed] [times]
 
 use oracle::exports::{ANSWERS, NUMBERS};
-use oracle::parts::{batch, cases, damage, drift, exhaustive, held, histories, ledger, limits, lines, link, repair, restore, room, sums, uneven, zeros, Compared, Effort};
+use oracle::parts::{batch, cases, damage, drift, exhaustive, held, histories, kiosk, ledger, limits, lines, link, repair, restore, room, sums, uneven, zeros, Compared, Effort};
 use std::process::ExitCode;
 use std::sync::atomic::{AtomicUsize, Ordering};
 use std::thread;
@@ -30,6 +30,7 @@ const PARTS: &[(&str, fn(Effort) -> Compared)] = &[
     ("lost lines: asked for and sent again", repair::all),
     ("minutes held: bounds and damaged sums", held::all),
     ("ledgers", ledger::all),
+    ("kiosks beside the tree engine", kiosk::all),
 ];
 
 /// What a main thread usually has: the original recurses as deep as a chain of nodes.

@@ -3,7 +3,7 @@
 
 mod met;
 pub mod planted;
-mod several;
+pub mod several;
 mod standby;
 
 use super::{Compared, Effort};

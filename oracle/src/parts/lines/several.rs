@@ -10,7 +10,7 @@ use std::collections::BTreeSet;
 
 /// The checks of receive in their order; those from `Length` to `Range` are parse's too.
 #[derive(Clone, Copy, PartialEq, Eq, PartialOrd, Ord, Debug)]
-enum Check {
+pub enum Check {
     BlockShape,
     InboxShape,
     BlockSound,
@@ -28,7 +28,7 @@ enum Check {
 
 use Check::*;
 
-const CHECKS: [(Check, u32); 13] = [
+pub const CHECKS: [(Check, u32); 13] = [
     (BlockShape, 1),
     (InboxShape, 1),
     (BlockSound, 2),
@@ -44,10 +44,10 @@ const CHECKS: [(Check, u32); 13] = [
     (Room, 5),
 ];
 
-type Fails = BTreeSet<Check>;
+pub type Fails = BTreeSet<Check>;
 
 /// Room is short for a put alone, and only a put can put 0.
-fn frame(random: &mut Random, fails: &Fails) -> Frame {
+pub fn frame(random: &mut Random, fails: &Fails) -> Frame {
     let put = fails.contains(&Room) || fails.contains(&Zero);
     let kind = if put { 1 } else { random.below(3) as u32 };
     let mut frame = planted::legal(random, kind);
@@ -64,7 +64,7 @@ fn frame(random: &mut Random, fails: &Fails) -> Frame {
 }
 
 /// The line and the first bad digit's place.
-fn line(random: &mut Random, frame: &Frame, fails: &Fails) -> (Vec<u8>, u32) {
+pub fn line(random: &mut Random, frame: &Frame, fails: &Fails) -> (Vec<u8>, u32) {
     let mut line = frame.line();
     let place = if fails.contains(&Digit) { planted::bad_digits(random, &mut line) } else { 0 };
     if fails.contains(&Length) {
@@ -89,7 +89,7 @@ fn block(random: &mut Random, frame: &Frame, version: u32, fails: &Fails) -> Vec
 }
 
 /// An inbox in which the frame was heard or not; one that finds no room was not.
-fn inbox(random: &mut Random, frame: &Frame, fails: &Fails) -> Vec<u32> {
+pub fn inbox(random: &mut Random, frame: &Frame, fails: &Fails) -> Vec<u32> {
     let batch = if fails.contains(&Batch) { frame.batch ^ 1 << random.below(32) } else { frame.batch };
     let others: Vec<u32> = [1, 2, 3, 64, 4095, 4096].into_iter().filter(|&count| count != frame.count).collect();
     let known = frame.count <= 4096 && random.once_in(2);
