@@ -1,4 +1,7 @@
 -- An equal key keeps its place; a new one is refused where there are 64, and else put where the pairs behind it made room.
+use mathlib.Core.Path.{_≡_}
+use Prim.Native.Nat.{_<_}
+use Rattle.model.specs.Kiosk.{count, keyAt}
 use lib.ListN.{length-set}
 use native.Mathlib.Omega.{arith}
 use Rattle.kiosk.proofs.Testing.{says-yes, says-no}
@@ -6,6 +9,16 @@ use Rattle.kiosk.proofs.Moving.{putting-over, putting-full, putting-new
 use borrow.Author.Needs.{needs}
 use Rattle.kiosk.proofs.edits.put.Statement.{statement}
 use Rattle.kiosk.proofs.edits.put.Tie as tie
+
+-- where the key was found, and where it was not
+abbrev entry : tie.After-has → tie.Start
+entry c = c .before .before .before
+
+there : (c : tie.Then1) → let a = entry (c .before) .args in (a .i < count (a .k .now)) × (keyAt (a .k .now) (a .i) ≡ a .key)
+there c = says-yes (c .before .has .result) (c .before .has .ensures) (c .if1 .taken)
+
+lacks : (c : tie.Else1) → let a = entry (c .before) .args in (a .i < count (a .k .now)) × (keyAt (a .k .now) (a .i) ≡ a .key) → ⊥
+lacks c = says-no (c .before .has .result) (c .before .has .ensures) (c .if1 .left)
 
 has-requires : tie.Need-has-requires
 has-requires c κs = search needs
@@ -20,13 +33,17 @@ mul-k-2 : tie.Need-mul-k-2
 mul-k-2 c = search needs
 
 slice-write-k : tie.Need-slice-write-k
-slice-write-k c = omega (arith, says-yes (c .before .has .result) (c .before .has .ensures) (c .if1 .taken) .0, c .before .before .before .before .pre .0 .long, c .before .before .before .before .pre .0 .few)
+slice-write-k c =
+    let s = c .before .before .before .before in
+    omega (arith, there c .0, s .pre .0 .long, s .pre .0 .few)
 
 same-length : tie.Need-same-length
 same-length c = search needs
 
 returns : tie.Need-returns
-returns c = putting-over (c .before .before .before .before .pre .0) (c .before .before .before .before .pre .1) _ (says-yes (c .before .has .result) (c .before .has .ensures) (c .if1 .taken))
+returns c =
+    let s = c .before .before .before .before in
+    putting-over (s .pre .0) (s .pre .1) _ (there c)
 
 slice-read-n : tie.Need-slice-read-n
 slice-read-n c = search needs
@@ -35,7 +52,9 @@ same-length-2 : tie.Need-same-length-2
 same-length-2 c = search needs
 
 returns-2 : tie.Need-returns-2
-returns-2 c = putting-full (c .before .before .before .before .before .before .pre .0) (c .before .before .before .before .before .before .pre .1) _ (says-no (c .before .before .before .has .result) (c .before .before .before .has .ensures) (c .before .before .if1 .left)) (c .if2 .taken)
+returns-2 c =
+    let s = c .before .before .before .before .before .before in
+    putting-full (s .pre .0) (s .pre .1) _ (lacks (c .before .before)) (c .if2 .taken)
 
 open-up-requires : tie.Need-open-up-requires
 open-up-requires c κs = search needs
@@ -74,7 +93,9 @@ same-length-3 : tie.Need-same-length-3
 same-length-3 c = search needs
 
 returns-3 : tie.Need-returns-3
-returns-3 c = putting-new (c .before .before .before .before .before .before .before .before .before .before .pre .0) (c .before .before .before .before .before .before .before .before .before .before .pre .1) _ (says-no (c .before .before .before .before .before .before .before .has .result) (c .before .before .before .before .before .before .before .has .ensures) (c .before .before .before .before .before .before .if1 .left)) (omega (arith, c .before .before .before .before .if2 .left)) (c .before .before .open-up .ensures)
+returns-3 c =
+    let s = c .before .before .before .before .before .before .before .before .before .before in
+    putting-new (s .pre .0) (s .pre .1) _ (lacks (c .before .before .before .before .before .before)) (omega (arith, c .before .before .before .before .if2 .left)) (c .before .before .open-up .ensures)
 
 pub put-spec : {M : Type 1} → statement M
 put-spec =
