@@ -39,7 +39,7 @@ extern "C" {
     fn ksk_kiosk_insert(kiosk: *mut u32, words: usize, key: c_uint, value: c_uint, had: *mut u32, old: *mut u32) -> c_uint;
     fn ksk_kiosk_remove(kiosk: *mut u32, words: usize, key: c_uint, had: *mut u32, old: *mut u32) -> c_uint;
     fn ksk_kiosk_list(kiosk: *const u32, words: usize, start: c_uint, out: *mut u32, out_words: usize, written: *mut u32, total: *mut u32) -> c_uint;
-    fn ksk_kiosk_receive(kiosk: *mut u32, words: usize, inbox: *mut u32, inbox_words: usize, line: *const u8, bytes: usize, again: *mut u32, missing: *mut u32, place: *mut u32) -> c_uint;
+    fn ksk_kiosk_receive(kiosk: *mut u32, words: usize, inbox: *mut u32, inbox_words: usize, line: *const u8, bytes: usize, repeat: *mut u32, missing: *mut u32, place: *mut u32) -> c_uint;
 }
 
 /// Why a call was refused. Nothing has changed.
