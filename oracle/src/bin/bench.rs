@@ -4,6 +4,7 @@ use oracle::call::{Call, Reply};
 use oracle::exports;
 use oracle::fast;
 use oracle::frame::{Frame, INBOX};
+use oracle::kiosk;
 use oracle::ledger::{self, Op};
 use oracle::original::{self, Map};
 use oracle::plain;
@@ -390,6 +391,33 @@ fn restoring(n: usize, rounds: usize) {
     }
 }
 
+/// The kiosk's calls beside the same calls on one version of a block, both with the same 60 entries; the ratio is how many times as fast it is.
+fn kiosks(n: usize, rounds: usize) {
+    println!("\n{:42} {:>6} {:>13} {:>13}", format!("N = {n}, a kiosk of 60 entries"), "times", "kiosk, ns", "table, ns");
+    let keys = keys(60, 2, 0);
+    let (mut table, mut flat, mut inbox) = (Table::fresh(n), vec![0; 129], vec![0; INBOX]);
+    put(&mut table, 0, &keys, |key| key + 1);
+    keys.iter().for_each(|&key| assert_eq!(kiosk::run(&mut flat, &mut [], &kiosk::Call::Insert { key, value: key + 1 }).number, 0));
+    inbox[0] = 7;
+    let line = Frame { batch: 7, index: 0, count: 2, kind: 1, key: 33, value: 5 }.line();
+    for (name, call) in [
+        ("lookup", kiosk::Call::Lookup { key: 76 }),
+        ("insert of a new key", kiosk::Call::Insert { key: 33, value: 5 }),
+        ("remove", kiosk::Call::Remove { key: 76 }),
+        ("listing", kiosk::Call::List { start: 0, room: 240 }),
+        ("receive of a line that puts a new key", kiosk::Call::Receive { line: line.to_vec() }),
+    ] {
+        let (start, mut times) = (table.words(), [u128::MAX; 2]);
+        for _ in 0..rounds {
+            let (mut slice, mut block, mut heard) = (flat.clone(), start.clone(), inbox.clone());
+            times[0] = times[0].min(nanoseconds(|| assert_eq!(kiosk::run(black_box(&mut slice), &mut heard, &call).number, 0)));
+            heard.copy_from_slice(&inbox);
+            times[1] = times[1].min(nanoseconds(|| assert_eq!(kiosk::run_tree(black_box(&mut block), &mut heard, [0, 1], &call).number, 0)));
+        }
+        println!("{name:42} {:6.1} {:13} {:13}", times[1] as f64 / times[0] as f64, times[0], times[1]);
+    }
+}
+
 /// Whether the exported union of two versions of k entries each, of which so many in a hundred are common, finds room beside them.
 fn finds_room(n: usize, k: u32, common: u32) -> bool {
     let mut table = entries(n, k, 0);
@@ -440,6 +468,7 @@ fn main() {
     operations(4096, rounds);
     questions(4096, rounds);
     restoring(4096, rounds);
+    kiosks(2016, rounds);
     reading_lines(rounds);
     [2048, 4096].iter().for_each(|&n| bad_line(n, rounds));
 }
