@@ -1,13 +1,6 @@
--- A list of zeros, and the eight words of a node.
-use mathlib.Core.Path.{_≡_, refl}
+-- The eight words of a node.
 use Prim.Native.Nat.{ℕ, zero, suc, _<_}
-use lib.ListN.{getD, replicate}
 use native.Mathlib.Omega.{arith}
-
-pub zeros-at : (n x : ℕ) → getD {A = ℕ} (replicate n 0) x 0 ≡ 0
-zeros-at zero x = refl
-zeros-at (suc n) zero = refl
-zeros-at (suc n) (suc x) = zeros-at n x
 
 -- what holds of each of eight holds below 8
 pub eight : (P : ℕ → Type 0) → P 0 → P 1 → P 2 → P 3 → P 4 → P 5 → P 6 → P 7 → (j : ℕ) → j < 8 → P j

@@ -13,7 +13,7 @@ use Rattle.model.specs.Link.{Step, Receive}
 use Rattle.model.specs.Replica.{Nothing, Hearing, still, then}
 use Rattle.model.proofs.Heard.{begun-sound, marked-sound}
 use Rattle.model.proofs.Receiving.{Outcome, away, again, new, receive-outcome, line-markable}
-use Rattle.audit.proofs.FreshBlock.{fresh-sound}
+use Rattle.model.proofs.FreshBlock.{fresh-sound}
 use Rattle.hearing.specs.Lines.{Runs, idle, waits, begins, hears, HearsSome}
 
 pub record Well (b x : List ℕ) : Type 0 where

@@ -19,6 +19,8 @@ pub mod Keeping
 pub mod Steady
 pub mod Room
 pub mod Cancel
+pub mod Rotations
+pub mod Balances
 -- Heaps, and the block that is one
 pub mod Loads
 pub mod Counts
@@ -35,6 +37,7 @@ pub mod Small
 pub mod Cases
 pub mod Pinned
 pub mod Versions
+pub mod FreshBlock
 -- How a call goes
 pub mod Steps
 pub mod Giving
@@ -45,6 +48,7 @@ pub mod Aparts
 pub mod Ends
 -- Listing and delta
 pub mod Turns
+pub mod Pending
 pub mod Rows
 pub mod Listings
 pub mod Picks
@@ -89,3 +93,6 @@ pub mod Restores
 pub mod Shallow
 pub mod Pairs
 pub mod Kiosks
+-- Too deep
+pub mod Histories
+pub mod Depths

@@ -6,7 +6,7 @@ use mathlib.Core.Option.{Option}
 use Rattle.model.specs.Tree.{Tree, node}
 use Rattle.model.specs.Supply.{Supply, Make, make, _>>=_, firstOf, isNone, next, taken, given, short}
 use Rattle.model.specs.Rules.{balanced, insertBy, insert, removeMin, withoutKey, removePresent, remove, editBy, join, split, unionBy, union, rest, difference}
-use Rattle.model.proofs.Keeping.{Keeping, make-ok, balanced-ok, insertBy-ok, insert-ok, removeMin-ok, withoutKey-ok, removePresent-ok, remove-ok, join-ok, split-ok, unionBy-ok, union-ok, rest-ok, difference-ok}
+use Rattle.model.proofs.Keeping.{Keeping, joining, make-ok, balanced-ok, insertBy-ok, insert-ok, removeMin-ok, withoutKey-ok, removePresent-ok, remove-ok, join-ok, split-ok, unionBy-ok, union-ok, rest-ok, difference-ok}
 
 -- a supply that fell short stays so
 abbrev pub Onward : {X : Type 0} → Make X → Type 0
@@ -68,19 +68,19 @@ pub join-onward : (k v : ℕ) (l r : Tree) → Onward (join k v l r)
 join-onward k v l r s e = join-ok keeping k v l r tt tt s e .1
 
 pub split-onward : (t : Tree) (k : ℕ) → Onward (split t k)
-split-onward t k s e = split-ok keeping t k tt s e .1
+split-onward t k s e = split-ok (joining keeping) t k tt s e .1
 
 pub unionBy-onward : (merge : ℕ → ℕ → ℕ) (fuel : ℕ) (l r : Tree) → Onward (unionBy merge fuel l r)
-unionBy-onward merge fuel l r s e = unionBy-ok keeping merge fuel l r tt tt s e .1
+unionBy-onward merge fuel l r s e = unionBy-ok (joining keeping) merge fuel l r tt tt s e .1
 
 pub union-onward : (merge : ℕ → ℕ → ℕ) (l r : Tree) → Onward (union merge l r)
-union-onward merge l r s e = union-ok keeping merge l r tt tt s e .1
+union-onward merge l r s e = union-ok (joining keeping) merge l r tt tt s e .1
 
 pub rest-onward : (a : Tree) (h : ℕ) (o : Option ℕ) (b : Tree) → Onward (rest a h o b)
-rest-onward a h o b s e = rest-ok keeping a h o b tt tt s e .1
+rest-onward a h o b s e = rest-ok (joining keeping) a h o b tt tt s e .1
 
 pub difference-onward : (diff : ℕ → ℕ → Option ℕ) (cancel : Bool) (l r : Tree) → Onward (difference diff cancel l r)
-difference-onward diff cancel l r s e = difference-ok keeping diff cancel l r tt tt s e .1
+difference-onward diff cancel l r s e = difference-ok (joining keeping) diff cancel l r tt tt s e .1
 
 -- makers by makers
 pub insertBy-onward : (mk : ℕ → ℕ → Tree → Tree → Make Tree) → ((k v : ℕ) (l r : Tree) → Onward (mk k v l r)) → (t : Tree) (k v : ℕ) → Onward (insertBy mk t k v)

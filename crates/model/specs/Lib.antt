@@ -22,3 +22,4 @@ pub mod Request
 pub mod Kiosk
 pub mod Engines
 pub mod Replica
+pub mod Reached

@@ -1,7 +1,7 @@
 -- A block of no words has N = 0, which is no N; any other is shaped when its length fits word 0.
 use borrow.Author.Needs.{needs}
 use Rattle.model.proofs.Tells.{tells-map}
-use Rattle.audit.proofs.FreshBlock.{fitting-shaped, shaped-fitting}
+use Rattle.model.proofs.FreshBlock.{fitting-shaped, shaped-fitting}
 use Rattle.audit.proofs.shape.Statement.{statement}
 use Rattle.audit.proofs.shape.Tie as tie
 
