@@ -8,3 +8,4 @@ pub mod Standby
 pub mod Ranges
 pub mod Tests
 pub mod Asking
+pub mod Reaching
