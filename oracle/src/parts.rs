@@ -1,5 +1,6 @@
 //! The parts of a comparison. Each gives the number of cases it compared, or the first that differs.
 
+pub mod balance;
 pub mod batch;
 pub mod cases;
 pub mod checks;

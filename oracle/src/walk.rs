@@ -16,11 +16,12 @@ fn side(tree: &Tree) -> Vec<Pending<'_>> {
     tree.as_deref().map(Branch).into_iter().collect()
 }
 
-fn open(side: &mut Vec<Pending>) -> Result<(), TooDeep> {
+fn open(side: &mut Vec<Pending>, most: &mut usize) -> Result<(), TooDeep> {
     let Some(Branch(node)) = side.pop() else { unreachable!("only trees are opened") };
     side.extend(node.right.as_deref().map(Branch));
     side.push(Entry(node.key, node.value));
     side.extend(node.left.as_deref().map(Branch));
+    *most = side.len().max(*most);
     if side.len() > 64 {
         Err(TooDeep)
     } else {
@@ -31,25 +32,27 @@ fn open(side: &mut Vec<Pending>) -> Result<(), TooDeep> {
 /// Key, left value, 1 if common, right value or 0.
 pub type Row = [u32; 4];
 
-/// A walk that goes no further than it is asked to; what comes after an overflow means nothing.
+/// A walk that goes no further than it is asked to, and the most items that it has had pending on one side; what comes after an
+/// overflow means nothing.
 pub struct Walk<'a> {
     left: Vec<Pending<'a>>,
     right: Vec<Pending<'a>>,
+    most: usize,
 }
 
 impl Walk<'_> {
     /// The next row, or none at the end.
     fn row(&mut self) -> Result<Option<Row>, TooDeep> {
-        let Walk { left, right } = self;
+        let Walk { left, right, most } = self;
         while let Some(first) = left.last() {
             match (first, right.last()) {
                 (Branch(l), Some(Branch(r))) if l.number == r.number => {
                     left.pop();
                     right.pop();
                 }
-                (Branch(l), Some(Branch(r))) if l.size < r.size => open(right)?,
-                (Branch(_), _) => open(left)?,
-                (Entry(..), Some(Branch(_))) => open(right)?,
+                (Branch(l), Some(Branch(r))) if l.size < r.size => open(right, most)?,
+                (Branch(_), _) => open(left, most)?,
+                (Entry(..), Some(Branch(_))) => open(right, most)?,
                 (&Entry(key, value), Some(&Entry(other, beside))) if key == other => {
                     left.pop();
                     right.pop();
@@ -77,7 +80,16 @@ impl Iterator for Walk<'_> {
 }
 
 pub fn walk<'a>(left: &'a Tree, right: &'a Tree) -> Walk<'a> {
-    Walk { left: side(left), right: side(right) }
+    let (left, right) = (side(left), side(right));
+    let most = left.len().max(right.len());
+    Walk { left, right, most }
+}
+
+/// The most items that the whole walk has pending on one side.
+pub fn pending(left: &Tree, right: &Tree) -> Result<usize, TooDeep> {
+    let mut walk = walk(left, right);
+    while walk.row()?.is_some() {}
+    Ok(walk.most)
 }
 
 pub fn rows(left: &Tree, right: &Tree) -> Result<Vec<Row>, TooDeep> {

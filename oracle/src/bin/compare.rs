@@ -1,7 +1,7 @@
 //! Compares the exported calls with the original and with documents 01 and 02. Usage: compare [seed] [times]
 
 use oracle::exports::{ANSWERS, NUMBERS};
-use oracle::parts::{batch, cases, damage, drift, exhaustive, held, histories, kiosk, ledger, limits, lines, link, repair, restore, room, sums, uneven, zeros, Compared, Effort};
+use oracle::parts::{balance, batch, cases, damage, drift, exhaustive, held, histories, kiosk, ledger, limits, lines, link, repair, restore, room, sums, uneven, zeros, Compared, Effort};
 use std::process::ExitCode;
 use std::sync::atomic::{AtomicUsize, Ordering};
 use std::thread;
@@ -22,6 +22,7 @@ const PARTS: &[(&str, fn(Effort) -> Compared)] = &[
     ("zero minutes", zeros::all),
     ("batches of edits", batch::all),
     ("restores from sorted listings", restore::all),
+    ("trees that lean as far as calls make them", balance::all),
     ("uneven trees: edits", uneven::edits),
     ("uneven trees: listings and depth", uneven::depths),
     ("same entries or not", drift::all),
