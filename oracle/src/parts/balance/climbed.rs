@@ -42,14 +42,13 @@ pub fn history(random: &mut Random) -> Compared {
     Ok(compared)
 }
 
-/// Version 0 is a worst tree with room for others beside it, and so is version 1, of other keys.
+/// Version 0 is a worst tree of up to half of the nodes, or nearly one, and version 1 a smaller one, of other keys.
 fn start(random: &mut Random, pair: &mut Pair) -> Compared {
-    let most = most_pending(pair.table.n / 4);
-    for version in [0, 1] {
-        let nodes = least_nodes(1 + random.below(most)) as u32;
-        let pending = most_pending(nodes as usize);
-        let keys: Vec<u32> = (1..=nodes).map(|i| APART * i + version).collect();
-        let order = order(&worst(&mut Supply::new((1..=nodes).collect()), pending, &keys));
+    for (version, part) in [(0, 2), (1, 8)] {
+        let most = most_pending(pair.table.n / part);
+        let pending = most - random.below(most.min(4));
+        let keys: Vec<u32> = (1..=least_nodes(pending) as u32).map(|i| APART * i + version).collect();
+        let order = order(&worst(&mut Supply::new((1..=keys.len() as u32).collect()), pending, &keys));
         for keys in order.chunks(MOST) {
             let edits = keys.iter().flat_map(|&key| [1, key, value(key)]).collect();
             pair.done(&Call::Batch { dest: version, source: version, edits })?;
