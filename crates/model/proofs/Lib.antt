@@ -49,6 +49,7 @@ pub mod Ends
 -- Listing and delta
 pub mod Turns
 pub mod Pending
+pub mod Leaning
 pub mod Rows
 pub mod Listings
 pub mod Picks

@@ -149,7 +149,7 @@ few-pending p a b ba bb wa wb m =
     begin : (t : Tree) → Balanced t → weight t ≤ heaviest p → Within p (pend t [])
     begin t bt wt = within-pend p t [] (λ z. record { p = p; light = wt; fits = omega arith; some = z; balanced = bt }) tt
 
--- 49 items carry every weight up to 4,755, so 4,096 nodes; 44 carry 2,016 nodes. 48 and 43 do not: 3,677 and 2,005 nodes can need 49 and 44.
+-- 49 items carry every weight up to 4,755, so 4,096 nodes; 44 carry 2,016 nodes. Fewer do not: Leaning.
 pub carried-by-49 : heaviest 49 ≡ 4755
 unfolding heaviest
 carried-by-49 = refl
