@@ -54,7 +54,8 @@ removeMin-balanced k v (node j h w ll lr) r s e bl br =
     balanced-balanced k v (m .0 .rest) r (m .1) (removeMin-balanced h w ll lr (given j s) (bl .0) (bl .1) (bl .2)) br (omega (arith, removeMin-size h w ll lr (given j s)))
 
 -- two trees without the key between them: the right one has lost its minimum
-without-balanced : (mk : ℕ → ℕ → Tree → Tree → Make Tree) (l r : Tree) (s : Supply) → ((k v : ℕ) (t : Tree) (u : Supply) → suc (size t) ≡ size r → Balanced t → Balanced (mk k v l t u .0)) → Balanced l → Balanced r → Balanced (withoutKey mk l r s .0)
+without-balanced : (mk : ℕ → ℕ → Tree → Tree → Make Tree) (l r : Tree) (s : Supply)
+    → ((k v : ℕ) (t : Tree) (u : Supply) → suc (size t) ≡ size r → Balanced t → Balanced (mk k v l t u .0)) → Balanced l → Balanced r → Balanced (withoutKey mk l r s .0)
 unfolding withoutKey Balanced size
 without-balanced mk leaf r s by bl br = br
 without-balanced mk (node i h w ll lr) leaf s by bl br = bl
@@ -76,9 +77,15 @@ removePresent-balanced (node i h w l r) k s b = go (compare k h) refl (removePre
 
     go : (c : Ordering) → compare k h ≡ c → Balanced (L .0) × (size l ≤ suc (size (L .0))) → Balanced (R .0) × (size r ≤ suc (size (R .0)))
         → Balanced (removePresent (node i h w l r) k s .0) × (suc (size l + size r) ≤ suc (size (removePresent (node i h w l r) k s .0)))
-    go Ordering·lt e x y = rw (e, removePresent) (balanced-balanced h w (L .0) r (L .1) (x .0) (b .2) (omega (arith, b .0, x .1, removePresent-size l k (given i s))), omega (arith, x .1, balanced-size h w (L .0) r (L .1)))
-    go Ordering·eq e x y = rw (e, removePresent) (without-balanced balanced l r (given i s) (λ k v t u q bt. balanced-balanced k v l t u (b .1) bt (omega (arith, b .0))) (b .1) (b .2), omega (arith, withoutKey-size balanced balanced-keeps l r (given i s)))
-    go Ordering·gt e x y = rw (e, removePresent) (balanced-balanced h w l (R .0) (R .1) (b .1) (y .0) (omega (arith, b .0, y .1, removePresent-size r k (given i s))), omega (arith, y .1, balanced-size h w l (R .0) (R .1)))
+    go Ordering·lt e x y =
+        let t = balanced-balanced h w (L .0) r (L .1) (x .0) (b .2) (omega (arith, b .0, x .1, removePresent-size l k (given i s))) in
+        rw (e, removePresent) (t, omega (arith, x .1, balanced-size h w (L .0) r (L .1)))
+    go Ordering·eq e x y =
+        let t = without-balanced balanced l r (given i s) (λ k v t u q bt. balanced-balanced k v l t u (b .1) bt (omega (arith, b .0))) (b .1) (b .2) in
+        rw (e, removePresent) (t, omega (arith, withoutKey-size balanced balanced-keeps l r (given i s)))
+    go Ordering·gt e x y =
+        let t = balanced-balanced h w l (R .0) (R .1) (b .1) (y .0) (omega (arith, b .0, y .1, removePresent-size r k (given i s))) in
+        rw (e, removePresent) (t, omega (arith, y .1, balanced-size h w l (R .0) (R .1)))
 
 pub remove-balanced : (t : Tree) (k : ℕ) (s : Supply) → Balanced t → Balanced (remove t k s .0)
 unfolding remove
@@ -103,9 +110,15 @@ insertNew-balanced (node i h w l r) k v s b = go (compare k h) refl (insertNew-b
 
     go : (c : Ordering) → compare k h ≡ c → Balanced (L .0) × (size l ≤ size (L .0)) → Balanced (R .0) × (size r ≤ size (R .0))
         → Balanced (insertBy balanced (node i h w l r) k v s .0) × (suc (size l + size r) ≤ size (insertBy balanced (node i h w l r) k v s .0))
-    go Ordering·lt e x y = rw (e, insertBy) (balanced-balanced h w (L .0) r (L .1) (x .0) (b .2) (omega (arith, b .0, x .1, insertBy-size balanced balanced-keeps l k v (given i s))), omega (arith, x .1, balanced-size h w (L .0) r (L .1)))
-    go Ordering·eq e x y = rw (e, insertBy) (balanced-balanced k v l r (given i s) (b .1) (b .2) (omega (arith, b .0)), omega (arith, balanced-size k v l r (given i s)))
-    go Ordering·gt e x y = rw (e, insertBy) (balanced-balanced h w l (R .0) (R .1) (b .1) (y .0) (omega (arith, b .0, y .1, insertBy-size balanced balanced-keeps r k v (given i s))), omega (arith, y .1, balanced-size h w l (R .0) (R .1)))
+    go Ordering·lt e x y =
+        let t = balanced-balanced h w (L .0) r (L .1) (x .0) (b .2) (omega (arith, b .0, x .1, insertBy-size balanced balanced-keeps l k v (given i s))) in
+        rw (e, insertBy) (t, omega (arith, x .1, balanced-size h w (L .0) r (L .1)))
+    go Ordering·eq e x y =
+        let t = balanced-balanced k v l r (given i s) (b .1) (b .2) (omega (arith, b .0)) in
+        rw (e, insertBy) (t, omega (arith, balanced-size k v l r (given i s)))
+    go Ordering·gt e x y =
+        let t = balanced-balanced h w l (R .0) (R .1) (b .1) (y .0) (omega (arith, b .0, y .1, insertBy-size balanced balanced-keeps r k v (given i s))) in
+        rw (e, insertBy) (t, omega (arith, y .1, balanced-size h w l (R .0) (R .1)))
 
 insertOld-balanced : (t : Tree) (k v w : ℕ) (s : Supply) → lookup t k ≡ some w → Balanced t → Balanced (insertBy make t k v s .0) × (size (insertBy make t k v s .0) ≡ size t)
 unfolding insertBy lookup Balanced size

@@ -1,10 +1,9 @@
--- No call on a block that the table's calls reach from a fresh one answers TOO_DEEP: its versions are balanced, and a walk of balanced trees has few items pending.
+-- No call on a block that the table's calls reach from a fresh one answers TOO_DEEP: its versions are balanced, and a walk of balanced trees keeps few items.
 use mathlib.Core.Path.{_≡_, ap, sym, _∙_}
 use mathlib.Core.Logic.{_≢_, ⊎-elim}
 use Prim.Native.Nat.{ℕ, _≤_, _<_}
 use mathlib.Core.Bool.{false}
 use mathlib.Core.List.{List}
-use lib.ListN.{length}
 use native.Mathlib.Omega.{arith}
 use Rattle.model.specs.Tree.{Tree, size}
 use Rattle.model.specs.Balance.{Balanced}
@@ -18,7 +17,7 @@ use Rattle.model.specs.Lists.{Report, Pieces, Lists, listed, framed, Sam
 use Rattle.model.specs.Reached.{Reached}
 use Rattle.model.proofs.Versions.{version-room}
 use Rattle.model.proofs.Drifts.{same-too-deep}
-use Rattle.model.proofs.Pending.{heaviest, carried-by-49, carried-by-44, few-pending, balanced-shallow, balanced-delta-shallow}
+use Rattle.model.proofs.Pending.{heaviest, AtMost, carried-by-49, carried-by-44, few-pending, balanced-shallow, balanced-delta-shallow}
 use Rattle.model.proofs.Histories.{reached-balanced}
 
 other-report : (a : Report) (n w t : ℕ) → a ≡ record { number = n; written = w; total = t } → n ≢ TOO_DEEP → a .number ≢ TOO_DEEP
@@ -46,15 +45,16 @@ module _ {b : List ℕ} (R : Reached b) where
   most v lt = omega (arith, within-room v lt, reached-balanced R .sound .shaped .most)
 
   -- at any turn of a walk of one version against another, p items are enough on each side if N is below the weight that p carry
-  pub reached-pending : (p : ℕ) → room b < heaviest p → (v w : ℕ) → v < 16 → w < 16 → (m : ℕ) → (length (after m (start (tree v) (tree w)) .left) ≤ p) × (length (after m (start (tree v) (tree w)) .right) ≤ p)
-  reached-pending p few v w lv lw m = few-pending p (tree v) (tree w) (balance v lv) (balance w lw) (omega (arith, within-room v lv)) (omega (arith, within-room w lw)) m
+  pub reached-pending : (p : ℕ) → room b < heaviest p → (v w : ℕ) → v < 16 → w < 16 → (m : ℕ) → AtMost p (after m (start (tree v) (tree w)))
+  reached-pending p few v w lv lw m =
+      few-pending p (tree v) (tree w) (balance v lv) (balance w lw) (omega (arith, within-room v lv)) (omega (arith, within-room w lw)) m
 
   -- 49 whatever N is
-  pub never-above-49 : (v w : ℕ) → v < 16 → w < 16 → (m : ℕ) → (length (after m (start (tree v) (tree w)) .left) ≤ 49) × (length (after m (start (tree v) (tree w)) .right) ≤ 49)
+  pub never-above-49 : (v w : ℕ) → v < 16 → w < 16 → (m : ℕ) → AtMost 49 (after m (start (tree v) (tree w)))
   never-above-49 v w lv lw m = reached-pending 49 (omega (arith, reached-balanced R .sound .shaped .most, carried-by-49)) v w lv lw m
 
   -- 44 up to the standby's N
-  pub never-above-44 : room b ≤ 2016 → (v w : ℕ) → v < 16 → w < 16 → (m : ℕ) → (length (after m (start (tree v) (tree w)) .left) ≤ 44) × (length (after m (start (tree v) (tree w)) .right) ≤ 44)
+  pub never-above-44 : room b ≤ 2016 → (v w : ℕ) → v < 16 → w < 16 → (m : ℕ) → AtMost 44 (after m (start (tree v) (tree w)))
   never-above-44 few v w lv lw m = reached-pending 44 (omega (arith, carried-by-44)) v w lv lw m
 
   -- so no walk of two of its versions is too deep, and no delta

@@ -1,4 +1,4 @@
--- No walk of balanced trees is too deep: a tree of weight at most `heaviest p` needs no more than p pending items, since a left child weighs at most 3 times its sibling.
+-- No walk of balanced trees is too deep: a tree of weight at most `heaviest p` needs at most p pending items, since a left child weighs at most 3 times its sibling.
 use mathlib.Core.Path.{_≡_, refl}
 use mathlib.Core.Logic.{⊎-elim}
 use Prim.Native.Nat.{ℕ, zero, suc, max, _+_, _/_, _≤_, _<_, compare, Ordering, Ordering·lt, Ordering·eq, Ordering·gt}
@@ -14,7 +14,7 @@ use Rattle.model.specs.Listing.{Item, tree, entry, Sides, Turn, over, on
 use Rattle.model.specs.Delta.{deltaDeep}
 use Rattle.model.proofs.Turns.{too-deep-exactly}
 
--- the largest weight for which p pending items are always enough: two more of them carry a left child of the weight before, and beside it no more than a third of that
+-- the largest weight for which p pending items are always enough: two more of them carry a left child of the weight before, and a third of that beside it
 unfoldable pub heaviest : ℕ → ℕ
 heaviest zero = 1
 heaviest (suc zero) = 2
@@ -71,8 +71,8 @@ lone-left zero w a b = omega arith
 lone-left (suc q) w a b = omega (arith, heavier (suc (suc q)))
 
 -- what the left child needs: it stands before its parent's entry, and before its sibling if there is one
-left-enough : (n q : ℕ) (l r : Tree) (is : List Item) → weight l + weight r ≤ heaviest (suc (suc q)) → suc (suc (q + length is)) ≤ n → Level (weight l) (weight r) → 1 ≤ size l → Balanced l
-    → Enough n (suc (length (pend r is))) l
+left-enough : (n q : ℕ) (l r : Tree) (is : List Item) → weight l + weight r ≤ heaviest (suc (suc q)) → suc (suc (q + length is)) ≤ n → Level (weight l) (weight r)
+    → 1 ≤ size l → Balanced l → Enough n (suc (length (pend r is))) l
 unfolding heaviest size
 left-enough n q l leaf is light fits v some b = record { p = suc q; light = lone-left q (weight l) (omega (arith, v)) (omega arith); fits = omega arith; some = some; balanced = b }
 left-enough n q l (node i h x rl rr) is light fits v some b = record { p = q; light = omega (arith, v); fits = omega arith; some = some; balanced = b }
@@ -138,9 +138,12 @@ after-within n (suc m) s p q = let w = next-within n s p q in after-within n m (
 
 -- The theorems
 
--- at every turn of a walk at most p items are pending on each side
-pub few-pending : (p : ℕ) (a b : Tree) → Balanced a → Balanced b → weight a ≤ heaviest p → weight b ≤ heaviest p → (m : ℕ)
-    → (length (after m (start a b) .left) ≤ p) × (length (after m (start a b) .right) ≤ p)
+-- no more than p items are pending on either side
+abbrev pub AtMost : ℕ → Sides → Type 0
+AtMost p s = (length (s .left) ≤ p) × (length (s .right) ≤ p)
+
+-- p are enough at every turn of a walk
+pub few-pending : (p : ℕ) (a b : Tree) → Balanced a → Balanced b → weight a ≤ heaviest p → weight b ≤ heaviest p → (m : ℕ) → AtMost p (after m (start a b))
 unfolding Within
 few-pending p a b ba bb wa wb m =
     let w = after-within p m (start a b) (begin a ba wa) (begin b bb wb) in
@@ -158,7 +161,7 @@ pub carried-by-44 : heaviest 44 ≡ 2067
 unfolding heaviest
 carried-by-44 = refl
 
-pub at-most-49 : (a b : Tree) → Balanced a → Balanced b → size a ≤ 4096 → size b ≤ 4096 → (m : ℕ) → (length (after m (start a b) .left) ≤ 49) × (length (after m (start a b) .right) ≤ 49)
+pub at-most-49 : (a b : Tree) → Balanced a → Balanced b → size a ≤ 4096 → size b ≤ 4096 → (m : ℕ) → AtMost 49 (after m (start a b))
 at-most-49 a b ba bb sa sb m = few-pending 49 a b ba bb (omega (arith, carried-by-49)) (omega (arith, carried-by-49)) m
 
 -- so no listing of balanced trees is too deep
