@@ -97,3 +97,4 @@ pub mod Kiosks
 -- Too deep
 pub mod Histories
 pub mod Depths
+pub mod ResendDepth
