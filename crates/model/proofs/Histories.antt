@@ -1,6 +1,6 @@
 -- A block that the table's calls reach from a fresh one is sound and its versions are balanced, since every call's rule keeps balance.
 use mathlib.Core.Path.{_≡_, refl, ap, sym, subst, _∙_}
-use Prim.Native.Nat.{ℕ, _<_}
+use Prim.Native.Nat.{ℕ, _≤_, _<_}
 use mathlib.Core.Bool.{Bool, true, false}
 use mathlib.Core.List.{List, [], _∷_}
 use lib.ListN.{length}
@@ -18,8 +18,11 @@ use Rattle.model.specs.Calls.{fails, passes, Answer, Versions, Edited, E
 use Rattle.model.specs.Batch.{Record, batchRule, Batched}
 use Rattle.model.specs.Link.{frameRule, Step, Takes, Says, Receive}
 use Rattle.model.specs.Replica.{Hearing, still, then}
-use Rattle.model.specs.Reached.{Call, insert, remove, copy, clear, union, difference, editOf, Reached, fresh, edited, batched, batchedWords, received, BalancedBlock}
+use Rattle.model.specs.Text.{entriesOf}
+use Rattle.model.specs.Restore.{built, Restore}
+use Rattle.model.specs.Reached.{Call, insert, remove, copy, clear, union, difference, editOf, Reached, fresh, edited, batched, batchedWords, received, restored, BalancedBlock}
 use Rattle.model.proofs.FreshBlock.{fresh-sound, fresh-empty}
+use Rattle.model.proofs.Builds.{built-balanced}
 use Rattle.model.proofs.Balances.{insert-balanced, remove-balanced, editBy-balanced, union-balanced, difference-balanced}
 
 -- a refusal leaves the block
@@ -107,6 +110,20 @@ receive-balanced s v line B (passes a (passes c (passes d (passes e (passes lt T
     says (good f) (passes p (passes q (fails z r))) = unmoved B (r .1)
     says (good f) (passes p (passes q (passes z T))) = takes f (heardAt (s .inbox) (f .index)) T
 
+-- Restores
+
+-- whatever it answers: its tree is built from the middle
+pub restore-balanced : {b after : List ℕ} {n line : ℕ} (v : ℕ) (text : List ℕ) → BalancedBlock b → Restore b after v text n line → BalancedBlock after
+restore-balanced v text B (fails p r) = unmoved B (r .2)
+restore-balanced v text B (passes p (fails q r)) = unmoved B (r .2)
+restore-balanced v text B (passes p (passes q (fails u r))) = unmoved B (r .2)
+restore-balanced v text B (passes p (passes q (passes u (fails f r)))) = unmoved B (r .1)
+restore-balanced v text B (passes p (passes q (passes u (passes f (fails m r))))) = unmoved B (r .2)
+restore-balanced {b} v text B (passes p (passes q (passes u (passes f (passes m r))))) =
+    let es = entriesOf text in
+    let fits : length es ≤ length es = omega arith in
+    edited-balanced v (built (length es) es (supply (heap b)) .0) B (built-balanced (length es) es (supply (heap b)) fits) (r .2)
+
 -- A fresh call that is done
 
 fresh-balanced : {b after : List ℕ} {a : Answer} (n : ℕ) → Fresh b after n a → a .number ≡ 0 → BalancedBlock after
@@ -123,6 +140,7 @@ reached-balanced (edited {b = b} c R E) = let B = reached-balanced R in edits-ba
 reached-balanced (batched dst src es R E) = batch-balanced dst src es (reached-balanced R) E
 reached-balanced (batchedWords dst src ws R E) = batch-balanced dst src _ (reached-balanced R) E
 reached-balanced (received v line R r) = receive-balanced _ v line (reached-balanced R) r
+reached-balanced (restored v text R r) = restore-balanced v text (reached-balanced R) r
 
 -- every fresh block is reached
 pub fresh-reached : (b : List ℕ) (n : ℕ) → Fitting (length b) n → Reached (freshBlock n)
