@@ -416,6 +416,16 @@ impl Ledger {
         Ok(ledger)
     }
 
+    /// The words that a host keeps safe, three an account: topped-up, spent, free.
+    pub fn words(&self) -> &[u64] {
+        &self.words
+    }
+
+    /// A ledger that goes on from kept words. If they are not three for each of 1 to 256 accounts, every operation is `Declined::Accounts`.
+    pub fn of_words(words: Vec<u64>) -> Ledger {
+        Ledger { words }
+    }
+
     pub fn top_up(&mut self, account: u32, minutes: u64) -> Result<(), Declined> {
         carried(unsafe { ksk_ledger_top_up(self.words.as_mut_ptr(), self.words.len(), account, minutes) }, 0)
     }
