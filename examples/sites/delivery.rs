@@ -5,7 +5,7 @@ use crate::link::Line;
 use crate::request::{asks, Gathered};
 use crate::site::{Site, COPY, OPEN, SENT};
 
-/// A standby that has heard new lines asks one tick later, so silence for longer than that is none.
+/// A standby that hears new lines does not ask in that tick, so only a longer silence counts.
 const QUIET: u64 = 2;
 
 pub struct Delivery {
@@ -68,8 +68,8 @@ impl Delivery {
         Ok(())
     }
 
-    /// At the end of a tick. Without repair a copy is done with when the link is empty, whatever has arrived of it. With repair a standby that says nothing may have
-    /// heard nothing of this batch, or its word was lost: it is sent the first line once more.
+    /// At the end of a tick. Without repair a copy is done with when the link is empty, whatever has arrived of it.
+    /// With repair a standby that says nothing may have heard nothing of this batch, or its word was lost: it is sent the first line once more.
     pub fn tick(&mut self, site: &mut Site) -> Result<(), Refusal> {
         if !self.under_way || !site.link.is_empty() {
             return Ok(());

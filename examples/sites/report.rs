@@ -26,8 +26,8 @@ pub fn begin(o: &Options) {
 /// A line that is written over, where somebody looks.
 pub fn progress(site: &Site, shift: &Shift) {
     if shift.clock % 50 == 0 && !site.options.quiet && stderr().is_terminal() {
-        let day = clock(site.options.ticks_of_day());
-        let _ = write!(stderr(), "\r{} of {day}  site {} is used, {} calls are open\x1b[K", clock(shift.clock), site.name, grouped(shift.calls.open().len() as u64));
+        let (now, day, open) = (clock(shift.clock), clock(site.options.ticks_of_day()), grouped(shift.calls.open().len() as u64));
+        let _ = write!(stderr(), "\r{now} of {day}: site {} is used, {open} calls are open\x1b[K", site.name);
     }
 }
 
@@ -55,12 +55,10 @@ pub fn change(site: &Site, shift: &Shift, entries: usize, gap: &Gap, off: usize)
 pub fn end(c: &Counts, o: &Options, took: Duration) {
     progress_ends();
     println!("\n{} of calls in {:.1} seconds.", clock(o.ticks_of_day()), took.as_secs_f64());
-    println!("Ledger: {} reserved, {} settled, {} dropped, {} top-ups, {} refused.", grouped(c.reserved), grouped(c.settled), grouped(c.dropped), grouped(c.top_ups), grouped(c.refused));
-    println!("Copies: {}, of {} lines; {} lines were sent again for {} requests.", grouped(c.copies), grouped(c.lines), grouped(c.sent_again), grouped(c.requests));
-    println!("Link: {} datagrams, {} lost, {} repeated, {} held back; {} more lost by the machine.", grouped(c.datagrams), grouped(c.lost), grouped(c.repeated), grouped(c.held_back), c.gone);
-    println!("Lines heard: {} new, {} again, {} late, {} without room.", grouped(c.heard), grouped(c.heard_again), grouped(c.late), grouped(c.no_room));
-    println!("Stranded after {} site changes: {} minutes of {} calls that are over.", c.changes, grouped(c.stranded_minutes), grouped(c.stranded_calls));
-    println!("Missing after them: {} minutes of {} calls that are open.", grouped(c.missing_minutes), grouped(c.missing_calls));
+    traffic(c);
+    let [stranded, over, missing, open] = [c.stranded_minutes, c.stranded_calls, c.missing_minutes, c.missing_calls].map(grouped);
+    println!("Stranded after {} site changes: {stranded} minutes of {over} calls that are over.", c.changes);
+    println!("Missing after them: {missing} minutes of {open} calls that are open.");
     println!("Edits waited {:.1} seconds a site change, on the average.", seconds(c.waited) / c.changes.max(1) as f64);
     match c.differing {
         0 => println!("At the end both sites hold the same {} entries.", grouped(c.entries)),
@@ -69,7 +67,18 @@ pub fn end(c: &Counts, o: &Options, took: Duration) {
     println!("{} passed, {} failed", c.passed, c.failed);
 }
 
-fn seconds(ticks: u64) -> f64 {
+fn traffic(c: &Counts) {
+    let [reserved, settled, dropped, top_ups, refused] = [c.reserved, c.settled, c.dropped, c.top_ups, c.refused].map(grouped);
+    println!("Ledger: {reserved} reserved, {settled} settled, {dropped} dropped, {top_ups} top-ups, {refused} refused.");
+    let [copies, lines, again, requests] = [c.copies, c.lines, c.sent_again, c.requests].map(grouped);
+    println!("Copies: {copies}, of {lines} lines; {again} lines were sent again for {requests} requests.");
+    let [datagrams, lost, repeated, held_back, gone] = [c.datagrams, c.lost, c.repeated, c.held_back, c.gone].map(grouped);
+    println!("Link: {datagrams} datagrams, {lost} lost, {repeated} repeated, {held_back} held back; {gone} more lost by the machine.");
+    let [heard, again, late, no_room] = [c.heard, c.heard_again, c.late, c.no_room].map(grouped);
+    println!("Lines heard: {heard} new, {again} again, {late} late, {no_room} without room.");
+}
+
+pub fn seconds(ticks: u64) -> f64 {
     ticks as f64 / TICKS_A_SECOND as f64
 }
 

@@ -1,4 +1,5 @@
-//! A request as it arrives: its lines are datagrams too, so some are lost, come twice or in another order. The standby says the same again until it is answered.
+//! A request as it arrives: its lines are datagrams too, so some are lost, come twice or in another order.
+//! The standby says the same again until it is answered.
 
 use crate::link::Line;
 use std::collections::BTreeMap;
