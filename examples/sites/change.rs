@@ -54,17 +54,18 @@ impl Gap {
 }
 
 /// This site is the primary from now on.
-pub fn take_over(site: &mut Site, shift: &Shift) -> Result<(), Box<dyn Error>> {
+pub fn take_over(site: &mut Site, shift: &mut Shift) -> Result<(), Box<dyn Error>> {
     let entries = site.entries()?;
     let gap = Gap::between(&entries, shift.calls.open());
     gap.count(&mut site.counts);
     site.counts.waited += shift.waited;
+    shift.stranded += gap.stranded_minutes;
     let surplus = shift.books.surplus(&site.block)?;
     let off = surplus.iter().filter(|minutes| **minutes != 0).count();
     report::change(site, shift, entries.len(), &gap, off);
     let sum: i64 = surplus.iter().sum();
     site.counts.check(sum == gap.stranded_minutes as i64 - gap.missing_minutes as i64, "the accounts are off by what is stranded less what is missing");
-    if site.options.repair {
+    if site.options.complete() {
         site.counts.check(gap.is_none(), "nothing is stranded or missing");
         site.counts.check(off == 0, "the minutes of every account add up");
     } else {
@@ -74,7 +75,7 @@ pub fn take_over(site: &mut Site, shift: &Shift) -> Result<(), Box<dyn Error>> {
     Ok(())
 }
 
-/// Without repair somebody sets the version right by hand, so that each site change is counted by itself.
+/// Where something may be stranded somebody sets the version right by hand, so that each site change is counted by itself.
 fn set_right(site: &mut Site, shift: &Shift) -> Result<(), Refusal> {
     let puts: Vec<Edit> = shift.calls.open().values().map(|call| Edit::Put { key: call.number, value: call.minutes }).collect();
     site.block.clear(OPEN)?;

@@ -82,8 +82,8 @@ fn play(site: &mut Site, mut shift: Option<Shift>) -> Result<Counts, Box<dyn Err
         }
         match standby::run(site, batch)? {
             Order::TakeOver(words) => {
-                let now = Shift::of_words(&words);
-                change::take_over(site, &now)?;
+                let mut now = Shift::of_words(&words);
+                change::take_over(site, &mut now)?;
                 shift = Some(now);
             }
             Order::Over(words) => {

@@ -12,6 +12,7 @@ examples/sites/run [options]: two sites on a bad link
   --hours H          how long the day is, parts of an hour too (1)
   --change MINUTES   from one site change to the next (2)
   --no-repair        the standby does not ask for lines that are lost
+  --sudden           the site that is used fails without warning, in place of a site change with time to send the last changes
   --table            several loss rates, with and without repair, as comma-separated values";
 
 #[derive(Clone)]
@@ -23,6 +24,7 @@ pub struct Options {
     pub hours: f64,
     pub change: f64,
     pub repair: bool,
+    pub sudden: bool,
     pub table: bool,
     /// Nothing is printed but what `--table` prints.
     pub quiet: bool,
@@ -30,7 +32,7 @@ pub struct Options {
 
 impl Options {
     pub fn read(mut words: impl Iterator<Item = String>) -> Result<Options, String> {
-        let mut o = Options { loss: 5.0, repeat: 2.0, delay: 10.0, seed: 1, hours: 1.0, change: 2.0, repair: true, table: false, quiet: false };
+        let mut o = Options::default();
         while let Some(word) = words.next() {
             match word.as_str() {
                 "--loss" => o.loss = number(&word, words.next())?,
@@ -40,12 +42,22 @@ impl Options {
                 "--hours" => o.hours = number(&word, words.next())?,
                 "--change" => o.change = number(&word, words.next())?,
                 "--no-repair" => o.repair = false,
+                "--sudden" => o.sudden = true,
                 "--table" => o.table = true,
                 "--quiet" => o.quiet = true,
                 _ => return Err(format!("what is {word}?\n{USAGE}")),
             }
         }
         o.checked()
+    }
+
+    fn default() -> Options {
+        Options { loss: 5.0, repeat: 2.0, delay: 10.0, seed: 1, hours: 1.0, change: 2.0, repair: true, sudden: false, table: false, quiet: false }
+    }
+
+    /// Whether nothing may be stranded: only then is it a check.
+    pub fn complete(&self) -> bool {
+        self.repair && !self.sudden
     }
 
     fn checked(self) -> Result<Options, String> {
@@ -63,7 +75,8 @@ impl Options {
         let rates = [("--loss", self.loss), ("--repeat", self.repeat), ("--delay", self.delay), ("--hours", self.hours), ("--change", self.change)];
         let mut words: Vec<String> = rates.iter().flat_map(|(name, value)| [name.to_string(), value.to_string()]).collect();
         words.extend(["--seed".into(), self.seed.to_string()]);
-        words.extend([(!self.repair, "--no-repair"), (self.quiet, "--quiet")].iter().filter(|(on, _)| *on).map(|(_, name)| name.to_string()));
+        let switches = [(!self.repair, "--no-repair"), (self.sudden, "--sudden"), (self.quiet, "--quiet")];
+        words.extend(switches.iter().filter(|(on, _)| *on).map(|(_, name)| name.to_string()));
         words
     }
 

@@ -14,18 +14,22 @@ const TICKS_OF_HASTE: u64 = 4 * TICKS_A_SECOND;
 /// If the last lines are not over by then, the link is taken for dead.
 const TICKS_TO_GIVE_UP: u64 = 20_000;
 
-/// Runs until the clock says `until`. Then edits wait until the last changes are over at the standby.
+/// Runs until the clock says `until`. Then edits wait until the last changes are over at the standby, unless this site fails without warning.
 pub fn run(site: &mut Site, shift: &mut Shift, until: u64) -> Result<(), Box<dyn Error>> {
     let mut delivery = Delivery::none();
     let mut next = shift.clock + TICKS_TO_COPY;
+    let fails = site.options.sudden && until < site.options.ticks_of_day();
     while shift.clock < until {
-        let due = shift.clock >= next || shift.clock + TICKS_OF_HASTE >= until;
+        let due = shift.clock >= next || !fails && shift.clock + TICKS_OF_HASTE >= until;
         if due && !delivery.under_way() {
             next = shift.clock + TICKS_TO_COPY;
             begin(site, shift, &mut delivery)?;
         }
         tick(site, Some(shift), &mut delivery)?;
         report::progress(site, shift);
+    }
+    if fails {
+        return Ok(());
     }
     shift.waited = finish(site, &mut delivery)?;
     begin(site, shift, &mut delivery)?;

@@ -14,12 +14,19 @@ pub fn begin(o: &Options) {
     println!("Calls: 100 begin each second and as many end, 200 edits a second; about 1,100 are open at once, on {ACCOUNTS} accounts.");
     println!("Every 3 seconds the site that is used copies its version and sends the other what has changed since the copy before.");
     println!("The link loses {} % of the datagrams, repeats {} % and holds {} % back for up to a second.", o.loss, o.repeat, o.delay);
-    if o.repair {
-        println!("Repair is on: the other site asks for the lines that it misses until it has them all.");
-    } else {
-        println!("Repair is off: each line is sent once. After each site change somebody sets the table right by hand, so each is counted by itself.");
+    match o.repair {
+        true => println!("Repair is on: the other site asks for the lines that it misses until it has them all."),
+        false => println!("Repair is off: each line is sent once."),
     }
-    println!("Every {} minutes the sites change: edits wait, the last changes are sent, and from then on the other site's version is used.", o.change);
+    match o.sudden {
+        true => println!("Every {} minutes the site that is used fails without warning, and from then on the other site's version is used.", o.change),
+        false => {
+            println!("Every {} minutes the sites change: edits wait, the last changes are sent, and from then on the other site's version is used.", o.change)
+        }
+    }
+    if !o.complete() {
+        println!("After each site change somebody sets the table right by hand, so that each is counted by itself.");
+    }
     println!("Stranded: minutes reserved there for calls that are over. Missing: minutes of open calls that are not reserved there.\n");
 }
 
@@ -27,7 +34,8 @@ pub fn begin(o: &Options) {
 pub fn progress(site: &Site, shift: &Shift) {
     if shift.clock % 50 == 0 && !site.options.quiet && stderr().is_terminal() {
         let (now, day, open) = (clock(shift.clock), clock(site.options.ticks_of_day()), grouped(shift.calls.open().len() as u64));
-        let _ = write!(stderr(), "\r{now} of {day}: site {} is used, {open} calls are open\x1b[K", site.name);
+        let stranded = grouped(shift.stranded);
+        let _ = write!(stderr(), "\r{now} of {day}: site {} is used, {open} calls are open; stranded so far: {stranded} minutes\x1b[K", site.name);
     }
 }
 

@@ -13,13 +13,15 @@ pub struct Shift {
     pub changes: u64,
     /// Ticks for which edits have waited before this site change.
     pub waited: u64,
+    /// Minutes that the site changes so far have stranded.
+    pub stranded: u64,
     pub books: Books,
     pub calls: Calls,
 }
 
 impl Shift {
     pub fn first(seed: u64) -> Result<Shift, Declined> {
-        Ok(Shift { clock: 0, batch: 0, changes: 0, waited: 0, books: Books::fresh()?, calls: Calls::none(Chance::stream(seed, 0)) })
+        Ok(Shift { clock: 0, batch: 0, changes: 0, waited: 0, stranded: 0, books: Books::fresh()?, calls: Calls::none(Chance::stream(seed, 0)) })
     }
 
     /// A tenth of a second: calls end, others begin.
@@ -36,15 +38,15 @@ impl Shift {
     }
 
     pub fn words(&self) -> Vec<u64> {
-        let mut words = vec![self.clock, self.batch as u64, self.changes, self.waited];
+        let mut words = vec![self.clock, self.batch as u64, self.changes, self.waited, self.stranded];
         words.extend(self.books.words());
         words.extend(self.calls.words());
         words
     }
 
     pub fn of_words(words: &[u64]) -> Shift {
-        let (books, calls) = words[4..].split_at(3 * ACCOUNTS as usize);
+        let (books, calls) = words[5..].split_at(3 * ACCOUNTS as usize);
         let (books, calls) = (Books::of_words(books), Calls::of_words(calls));
-        Shift { clock: words[0], batch: words[1] as u32, changes: words[2], waited: words[3], books, calls }
+        Shift { clock: words[0], batch: words[1] as u32, changes: words[2], waited: words[3], stranded: words[4], books, calls }
     }
 }
