@@ -46,6 +46,10 @@ fn start() -> Result<bool, Box<dyn Error>> {
         day::second(&Options::read(words)?, port)?;
         return Ok(true);
     }
+    if words.next_if_eq("--help").is_some() {
+        println!("{}", options::USAGE);
+        return Ok(true);
+    }
     let options = Options::read(words)?;
     if options.table {
         return table::run(&options);

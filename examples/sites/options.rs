@@ -12,7 +12,7 @@ examples/sites/run [options]: two sites on a bad link
   --hours H          how long the day is, parts of an hour too (1)
   --change MINUTES   from one site change to the next (2)
   --no-repair        the standby does not ask for lines that are lost
-  --sudden           the site that is used fails without warning, in place of a site change with time to send the last changes
+  --sudden           the site that is used fails without warning, with no time to send the last changes
   --table            several loss rates, with and without repair, as comma-separated values";
 
 #[derive(Clone)]
