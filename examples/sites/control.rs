@@ -1,5 +1,5 @@
 //! The demonstration's clock, a TCP connection between the two processes: it says when a tick's datagrams have been sent, and hands over the accounts and
-//! the calls that are really open, which a host keeps elsewhere. What the table holds never goes this way, but for the comparison at the end.
+//! the calls that are really open, which a host knows from elsewhere. What the table holds never goes this way, but for the comparison at the end.
 
 use std::error::Error;
 use std::io::{self, Read, Write};
