@@ -106,7 +106,7 @@ fn accounts(primary: &mut Block, standby: &mut Block) -> Result<(), Box<dyn Erro
     ledger.reserve(primary, OPEN_CALLS, call(5), 30)?;
     ledger.reserve(primary, OPEN_CALLS, call(6), 40)?;
     // 0 minutes would read like a release.
-    assert_eq!(ledger.reserve(primary, OPEN_CALLS, call(7), 0), Err(Declined::Edit(Refusal::Zero)));
+    assert_eq!(ledger.reserve(primary, OPEN_CALLS, call(7), 0), Err(Declined::EditRefused(Refusal::Zero)));
     println!("call {} refused: 0 minutes", call(7));
     print_account(&ledger, primary, 1)?;
     bring_up_to_date(primary, 9, standby)?;

@@ -6,6 +6,7 @@ use std::os::raw::c_uint;
 
 #[link(name = "switch", kind = "static")]
 extern "C" {
+    fn ksk_audit(block: *const u32, words: usize) -> c_uint;
     fn ksk_fresh(block: *mut u32, words: usize, n: c_uint) -> c_uint;
     fn ksk_lookup(block: *const u32, words: usize, version: c_uint, key: c_uint, found: *mut u32, value: *mut u32) -> c_uint;
     fn ksk_size(block: *const u32, words: usize, version: c_uint, size: *mut u32) -> c_uint;
@@ -24,7 +25,7 @@ extern "C" {
     fn ksk_same(block: *const u32, words: usize, from: c_uint, to: c_uint, same: *mut u32) -> c_uint;
     fn ksk_parse(line: *const u8, bytes: usize, batch: *mut u32, index: *mut u32, count: *mut u32, kind: *mut u32, key: *mut u32, value: *mut u32, place: *mut u32) -> c_uint;
     fn ksk_begin(inbox: *mut u32, words: usize, batch: c_uint) -> c_uint;
-    fn ksk_receive(block: *mut u32, words: usize, inbox: *mut u32, inbox_words: usize, version: c_uint, line: *const u8, bytes: usize, again: *mut u32, missing: *mut u32, place: *mut u32) -> c_uint;
+    fn ksk_receive(block: *mut u32, words: usize, inbox: *mut u32, inbox_words: usize, version: c_uint, line: *const u8, bytes: usize, repeat: *mut u32, missing: *mut u32, place: *mut u32) -> c_uint;
     fn ksk_missing(inbox: *const u32, words: usize, missing: *mut u32) -> c_uint;
     fn ksk_ask(inbox: *const u32, words: usize, start: c_uint, out: *mut u8, out_bytes: usize, written: *mut u32, total: *mut u32) -> c_uint;
     fn ksk_resend(block: *const u32, words: usize, from: c_uint, to: c_uint, batch: c_uint, request: *const u8, request_bytes: usize, start: c_uint, out: *mut u8, out_bytes: usize, written: *mut u32, total: *mut u32) -> c_uint;
@@ -183,6 +184,11 @@ impl Block {
         let mut block = Block { words: vec![0; words] };
         done(unsafe { ksk_fresh(block.words.as_mut_ptr(), block.words.len(), n) })?;
         Ok(block)
+    }
+
+    /// Whether the block is sound: what every other call asks first.
+    pub fn audit(&self) -> Result<(), Refusal> {
+        done(unsafe { ksk_audit(self.words.as_ptr(), self.words.len()) })
     }
 
     pub fn lookup(&self, version: u32, key: u32) -> Result<Option<u32>, Refusal> {
@@ -367,7 +373,7 @@ pub enum Declined {
     Free,
     Above,
     Total,
-    Edit(Refusal),
+    EditRefused(Refusal),
 }
 
 impl fmt::Display for Declined {
@@ -390,7 +396,7 @@ fn carried(number: u32, table: u32) -> Result<(), Declined> {
         26 => Declined::Free,
         27 => Declined::Above,
         28 => Declined::Total,
-        29 => Declined::Edit(refusal()),
+        29 => Declined::EditRefused(refusal()),
         other => unreachable!("the ledger gives 0 and 21 to 29, not {other}"),
     })
 }

@@ -1,5 +1,5 @@
 //! The exported calls. A slice crosses as pointer and length, a field as a pointer. The declarations that are `pub` are what
-//! the comparisons of minutes held and of kiosks call in their own way.
+//! the comparisons of minutes held and of kiosks and the benchmark call in their own way.
 
 use crate::call::{Call, Reply};
 use crate::frame::Frame;
@@ -52,7 +52,7 @@ extern "C" {
         written: *mut u32,
         total: *mut u32,
     ) -> u32;
-    fn ksk_same(block: *const u32, words: usize, from: u32, to: u32, same: *mut u32) -> u32;
+    pub fn ksk_same(block: *const u32, words: usize, from: u32, to: u32, same: *mut u32) -> u32;
     fn ksk_parse(
         line: *const u8,
         bytes: usize,

@@ -16,10 +16,6 @@ use oracle::wbtree::map::look;
 use std::hint::black_box;
 use std::time::Instant;
 
-extern "C" {
-    fn ksk_same(block: *const u32, words: usize, from: u32, to: u32, same: *mut u32) -> u32;
-}
-
 /// How many blocks of a kind take turns.
 const BLOCKS: u64 = 8;
 
@@ -340,7 +336,7 @@ fn bad_line(n: usize, rounds: usize) {
 /// Whether versions 0 and 1 hold the same entries.
 fn same(block: &[u32]) -> bool {
     let mut same = 2;
-    assert_eq!(unsafe { ksk_same(block.as_ptr(), block.len(), 0, 1, &mut same) }, 0);
+    assert_eq!(unsafe { exports::ksk_same(block.as_ptr(), block.len(), 0, 1, &mut same) }, 0);
     same == 1
 }
 
