@@ -1,5 +1,4 @@
-"""Pictures of figures that other programs print, for each that is kept in docs/pictures/figures:
-bench.txt is what oracle/bench prints, sites.csv what `examples/sites/run --table` prints."""
+"""Pictures of figures that other programs print, for each that is kept: docs/bench.txt is what `oracle/bench` prints, docs/sites.csv what `examples/sites/run --table` prints."""
 import csv
 import re
 
@@ -38,8 +37,10 @@ def sites(text):
     def series(repair, name, colours):
         return Series(name, colours, [(float(row["loss_percent"]), float(row["stranded_minutes"])) for row in rows if row["repair"] == repair])
     both = series("off", "without", ORANGE), series("on", "with", BLUE)
-    canvas = Canvas("sites", 960, 500, "Minutes stranded at the site changes of a day", "Two sites on a link that loses lines (examples/sites): with repair the standby asks for what it misses.")
-    plot(canvas, Frame(96, 138, 800, 270, both), both, "lines lost, in percent", "stranded minutes")
+    changes = rows[0]["site_changes"]
+    canvas = Canvas("sites", 960, 500, "Minutes stranded at site changes, with and without repair",
+                    f"The sum over {changes} site changes of one simulated run (examples/sites). With repair the standby asks for the lines that it misses.")
+    plot(canvas, Frame(96, 138, 800, 270, both), both, "datagrams that the link loses, in percent; each carries a line", "stranded minutes")
     canvas.legend(96, 482, [(ORANGE, "without repair"), (BLUE, "with repair")])
     return canvas
 
