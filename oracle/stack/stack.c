@@ -17,7 +17,11 @@ static _Alignas(64) uint64_t stack[STACK / 8];
 static uint32_t block[WORDS], built[WORDS], inbox[KSK_INBOX_WORDS], entries[ENTRIES];
 static uint64_t ledger[KSK_LEDGER_WORDS(256)];
 static uint8_t lines[LINES], line[KSK_LINE_BYTES];
-static uint32_t edits[9];
+static uint32_t edits[9], kiosk[KSK_KIOSK_WORDS];
+static uint8_t text[ROOM / 2 * 17 + 1];
+
+/* A request for every line that there can be. */
+static const uint8_t whole[] = "0000000700000001110000000000000fff\n";
 
 /* What the call is given. */
 static struct { uint32_t dest, left, right, rule, cancel, key; } in;
@@ -40,10 +44,20 @@ static void difference(void) { answer = ksk_difference(block, WORDS, in.dest, in
 static void list(void) { answer = ksk_list(block, WORDS, in.left, in.right, 0, entries, ENTRIES, field, field + 1); }
 static void frames(void) { answer = ksk_frames(block, WORDS, in.left, in.right, 7, 0, lines, LINES, field, field + 1); }
 static void same(void) { answer = ksk_same(block, WORDS, in.left, in.right, field); }
+static void resend(void) { answer = ksk_resend(block, WORDS, in.left, in.right, 7, whole, KSK_LINE_BYTES, 0, lines, LINES, field, field + 1); }
+static void restore(void) { answer = ksk_restore(block, WORDS, in.dest, text, sizeof text - 1, total); }
+static void restore_one(void) { answer = ksk_restore(block, WORDS, in.dest, text, 17, total); }
 static void parse(void) { answer = ksk_parse(line, KSK_LINE_BYTES, field, field + 1, field + 2, field + 3, field + 4, field + 5, field + 6); }
 static void begin(void) { answer = ksk_begin(inbox, KSK_INBOX_WORDS, 7); }
 static void receive(void) { answer = ksk_receive(block, WORDS, inbox, KSK_INBOX_WORDS, in.dest, line, KSK_LINE_BYTES, field, field + 1, field + 2); }
 static void missing(void) { answer = ksk_missing(inbox, KSK_INBOX_WORDS, field); }
+static void ask(void) { answer = ksk_ask(inbox, KSK_INBOX_WORDS, 0, lines, LINES, field, field + 1); }
+static void kiosk_fresh(void) { answer = ksk_kiosk_fresh(kiosk, KSK_KIOSK_WORDS); }
+static void kiosk_lookup(void) { answer = ksk_kiosk_lookup(kiosk, KSK_KIOSK_WORDS, in.key, field, field + 1); }
+static void kiosk_insert(void) { answer = ksk_kiosk_insert(kiosk, KSK_KIOSK_WORDS, in.key, 1, field, field + 1); }
+static void kiosk_remove(void) { answer = ksk_kiosk_remove(kiosk, KSK_KIOSK_WORDS, in.key, field, field + 1); }
+static void kiosk_list(void) { answer = ksk_kiosk_list(kiosk, KSK_KIOSK_WORDS, 0, entries, ENTRIES, field, field + 1); }
+static void kiosk_receive(void) { answer = ksk_kiosk_receive(kiosk, KSK_KIOSK_WORDS, inbox, KSK_INBOX_WORDS, line, KSK_LINE_BYTES, field, field + 1, field + 2); }
 static void ledger_fresh(void) { answer = ksk_ledger_fresh(ledger, KSK_LEDGER_WORDS(256), 256); }
 static void ledger_top_up(void) { answer = ksk_ledger_top_up(ledger, KSK_LEDGER_WORDS(256), 0, 1000); }
 static void ledger_account(void) { answer = ksk_ledger_account(ledger, KSK_LEDGER_WORDS(256), 0, total, total + 1, total + 2); }
@@ -75,10 +89,20 @@ static struct call {
     { "ksk_list", list, 0, 0, "" },
     { "ksk_frames", frames, 0, 0, "" },
     { "ksk_same", same, 0, 0, "" },
+    { "ksk_resend", resend, 0, 0, "" },
+    { "ksk_restore", restore, 0, 0, "" },
+    { " of one line", restore_one, 0, 0, "" },
     { "ksk_parse", parse, 0, 0, "" },
     { "ksk_begin", begin, 0, 0, "" },
     { "ksk_receive", receive, 0, 0, "" },
     { "ksk_missing", missing, 0, 0, "" },
+    { "ksk_ask", ask, 0, 0, "" },
+    { "ksk_kiosk_fresh", kiosk_fresh, 0, 0, "" },
+    { "ksk_kiosk_lookup", kiosk_lookup, 0, 0, "" },
+    { "ksk_kiosk_insert", kiosk_insert, 0, 0, "" },
+    { "ksk_kiosk_remove", kiosk_remove, 0, 0, "" },
+    { "ksk_kiosk_list", kiosk_list, 0, 0, "" },
+    { "ksk_kiosk_receive", kiosk_receive, 0, 0, "" },
     { "ksk_ledger_fresh", ledger_fresh, 0, 0, "" },
     { "ksk_ledger_top_up", ledger_top_up, 0, 0, "" },
     { "ksk_ledger_reserve", ledger_reserve, 0, 0, "" },
@@ -157,7 +181,8 @@ static void write_edits(uint32_t key)
 
 static void measure_at_key(struct shape shape)
 {
-    static void (*const runs[])(void) = { lookup, held_between, insert, removing, batch, ledger_reserve, ledger_settle, ledger_release };
+    static void (*const runs[])(void) = { lookup, held_between, insert, removing, batch, ledger_reserve, ledger_settle, ledger_release,
+        kiosk_fresh, kiosk_insert, kiosk_lookup, kiosk_list, kiosk_remove };
     write_edits(in.key);
     for (size_t i = 0; i < sizeof runs / sizeof *runs; i++)
         measure(runs[i], shape);
@@ -167,6 +192,9 @@ static void measure_at_key(struct shape shape)
         measure(begin, shape);
         measure(receive, shape);
         measure(missing, shape);
+        measure(ask, shape);
+        measure(begin, shape);
+        measure(kiosk_receive, shape);
     }
 }
 
@@ -179,6 +207,7 @@ static void measure_pair(struct shape shape)
             measure(difference, shape);
     measure(list, shape);
     measure(frames, shape);
+    measure(resend, shape);
     measure(same, shape);
 }
 
@@ -186,7 +215,7 @@ static void measure_pair(struct shape shape)
 static void measure_shape(struct shape shape)
 {
     static const uint32_t pairs[][2] = { { 0, 0 }, { 0, 1 }, { 1, 0 }, { 0, 2 }, { 2, 0 }, { 0, 15 }, { 15, 0 } };
-    static void (*const runs[])(void) = { audit, size, held, copy, clear, ledger_account, ledger_top_up };
+    static void (*const runs[])(void) = { audit, size, held, copy, clear, restore, restore_one, ledger_account, ledger_top_up };
     for (in.dest = 0; in.dest <= 3; in.dest += 3) {
         for (size_t i = 0; i < sizeof pairs / sizeof *pairs; i++) {
             in.left = pairs[i][0];
@@ -209,6 +238,8 @@ int main(void)
     static const uint32_t sizes[] = { ROOM, ROOM - 1, ROOM - 2, ROOM / 2, 64 };
     size_t most = 0;
 
+    for (uint32_t i = 0; i < ROOM / 2; i++)
+        sprintf((char *)text + 17 * i, "%08x%08x\n", i, 1u);
     paint(0);
     measure(ledger_fresh, (struct shape){ "", 0, { 0 } });
     measure(ledger_top_up, (struct shape){ "", 0, { 0 } });
