@@ -18,6 +18,11 @@ use Rattle.frame.specs.Fields.{digitOf, fieldRead}
 pub digit-says : {r x : Digit} {o : Option ℕ} → digitOf r ≡ o → r ≡ x → digitOf x ≡ o
 digit-says e g = ap digitOf (sym g) ∙ e
 
+-- what a field that is a number says
+pub field-says : (cs : List ℕ) (at k n : ℕ) → some n ≡ field cs at k → inl n ≡ fieldRead cs at k
+unfolding fieldRead
+field-says cs at k n e = rw (sym e, fieldRead) refl
+
 -- j of the k digits from `at` on are read, and gave n
 pub record Reads (cs : List ℕ) (at k n j : ℕ) : Type 0 where
   pub within : j ≤ k

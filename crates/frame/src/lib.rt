@@ -1,6 +1,8 @@
 // Frame lines: 34 lower-case hexadecimal digits and a newline, written and read.
 pub mod word;
 
+use word::Eight;
+use word::read_eight;
 use word::texts;
 ghost use mathlib.Core.Path.{_≡_};
 ghost use mathlib.Core.List.{_++_};
@@ -119,6 +121,17 @@ fn read_hex(line: &[u8], at: usize, k: usize) -> Number
     Number::Is(n)
 }
 
+// The number in eight digits, all at once where they are digits; else the first that is none is looked for.
+fn read_long(line: &[u8], at: usize) -> Number
+    requires { ⌜ (at + 8 ≤ length (now line)) × (at + 8 ≤ 34) × (at ≤ model.firstBad (now line)) ⌝ }
+    ensures { λ r. ⌜ said r ≡ fieldRead (now (line .entry)) at 8 ⌝ }
+{
+    match read_eight(line, at) {
+        Eight::Is(n) => Number::Is(n),
+        Eight::None => read_hex(line, at, 8),
+    }
+}
+
 // The line of f, from `at` on.
 pub fn write(out: &mut [u8], at: usize, f: Frame)
     requires { ⌜ at + 35 ≤ length (now out) ⌝ }
@@ -179,7 +192,7 @@ pub fn fields(line: &[u8]) -> Parsed
     requires { ⌜ length (now line) ≡ 35 ⌝ }
     ensures { λ r. ⌜ parsed r ≡ fieldsRead (now (line .entry)) ⌝ }
 {
-    let batch = match read_hex(line, 0, 8) {
+    let batch = match read_long(line, 0) {
         Number::Is(n) => n,
         Number::Bad(place) => return bad(DIGIT, place),
     };
@@ -195,11 +208,11 @@ pub fn fields(line: &[u8]) -> Parsed
         Number::Is(n) => n,
         Number::Bad(place) => return bad(DIGIT, place),
     };
-    let key = match read_hex(line, 18, 8) {
+    let key = match read_long(line, 18) {
         Number::Is(n) => n,
         Number::Bad(place) => return bad(DIGIT, place),
     };
-    let value = match read_hex(line, 26, 8) {
+    let value = match read_long(line, 26) {
         Number::Is(n) => n,
         Number::Bad(place) => return bad(DIGIT, place),
     };

@@ -11,8 +11,8 @@ use Rattle.frame.proofs.fields.Statement.{statement}
 use Rattle.frame.proofs.fields.Tie as tie
 
 -- nothing stands before the first field
-read-hex-requires : tie.Need-read-hex-requires
-read-hex-requires c κs = search needs
+read-long-requires : tie.Need-read-long-requires
+read-long-requires c κs = search needs
 
 -- from the place where a field is known to the one before
 abbrev entry : tie.After-n → tie.Start
@@ -35,22 +35,22 @@ to-key c = c .before .before .before .before
 
 -- what each field says, and that it has no bad digit
 batch-is : (c : tie.After-n) → some (c .n .given .0 .0) ≡ field ((entry c) .args .line .now) 0 8
-batch-is c = field-is _ 0 8 (says (c .before .before .read-hex .ensures) (c .n .given .1))
+batch-is c = field-is _ 0 8 (says (c .before .before .read-long .ensures) (c .n .given .1))
 
 index-is : (c : tie.After-n2) → some (c .n2 .given .0 .0) ≡ field ((entry (to-batch c)) .args .line .now) 8 4
-index-is c = field-is _ 8 4 (says (c .before .before .read-hex2 .ensures) (c .n2 .given .1))
+index-is c = field-is _ 8 4 (says (c .before .before .read-hex .ensures) (c .n2 .given .1))
 
 count-is : (c : tie.After-n3) → some (c .n3 .given .0 .0) ≡ field ((entry (to-batch (to-index c))) .args .line .now) 12 4
-count-is c = field-is _ 12 4 (says (c .before .before .read-hex3 .ensures) (c .n3 .given .1))
+count-is c = field-is _ 12 4 (says (c .before .before .read-hex2 .ensures) (c .n3 .given .1))
 
 kind-is : (c : tie.After-n4) → some (c .n4 .given .0 .0) ≡ field ((entry (to-batch (to-index (to-count c)))) .args .line .now) 16 2
-kind-is c = field-is _ 16 2 (says (c .before .before .read-hex4 .ensures) (c .n4 .given .1))
+kind-is c = field-is _ 16 2 (says (c .before .before .read-hex3 .ensures) (c .n4 .given .1))
 
 key-is : (c : tie.After-n5) → some (c .n5 .given .0 .0) ≡ field ((entry (to-batch (to-index (to-count (to-kind c))))) .args .line .now) 18 8
-key-is c = field-is _ 18 8 (says (c .before .before .read-hex5 .ensures) (c .n5 .given .1))
+key-is c = field-is _ 18 8 (says (c .before .before .read-long2 .ensures) (c .n5 .given .1))
 
 value-is : (c : tie.After-n6) → some (c .n6 .given .0 .0) ≡ field ((entry (to-batch (to-index (to-count (to-kind (to-key c)))))) .args .line .now) 26 8
-value-is c = field-is _ 26 8 (says (c .before .before .read-hex6 .ensures) (c .n6 .given .1))
+value-is c = field-is _ 26 8 (says (c .before .before .read-long3 .ensures) (c .n6 .given .1))
 
 batch-good : (c : tie.After-n) → 8 ≤ firstBad ((entry c) .args .line .now)
 batch-good c = field-good _ 0 8 (omega arith) (omega (arith, (entry c) .pre)) (sym (batch-is c))
@@ -77,10 +77,10 @@ bad-requires : tie.Need-bad-requires
 bad-requires c κs = search needs
 
 returns : tie.Need-returns
-returns c = c .bad .ensures ∙ field-not _ 0 8 (says (c .before .before .before .before .read-hex .ensures) (c .before .before .place .given .1)) (no-batch _)
+returns c = c .bad .ensures ∙ field-not _ 0 8 (says (c .before .before .before .before .read-long .ensures) (c .before .before .place .given .1)) (no-batch _)
 
-read-hex-requires-2 : tie.Need-read-hex-requires-2
-read-hex-requires-2 c κs = (omega arith, omega arith, omega arith, batch-good (c .before))
+read-hex-requires : tie.Need-read-hex-requires
+read-hex-requires c κs = (omega arith, omega arith, omega arith, batch-good (c .before))
 
 enum-known-n-2 : tie.Need-enum-known-n-2
 enum-known-n-2 c = search needs
@@ -94,10 +94,10 @@ bad-requires-2 c κs = search needs
 returns-2 : tie.Need-returns-2
 returns-2 c =
     let b = c .before .before .before .before .before .before in
-    c .bad2 .ensures ∙ field-not _ 8 4 (says (c .before .before .before .before .read-hex2 .ensures) (c .before .before .place2 .given .1)) (no-index _ (batch-is b))
+    c .bad2 .ensures ∙ field-not _ 8 4 (says (c .before .before .before .before .read-hex .ensures) (c .before .before .place2 .given .1)) (no-index _ (batch-is b))
 
-read-hex-requires-3 : tie.Need-read-hex-requires-3
-read-hex-requires-3 c κs = (omega arith, omega arith, omega arith, index-good (c .before))
+read-hex-requires-2 : tie.Need-read-hex-requires-2
+read-hex-requires-2 c κs = (omega arith, omega arith, omega arith, index-good (c .before))
 
 enum-known-n-3 : tie.Need-enum-known-n-3
 enum-known-n-3 c = search needs
@@ -112,10 +112,10 @@ returns-3 : tie.Need-returns-3
 returns-3 c =
     let i = c .before .before .before .before .before .before in
     let b = to-batch i in
-    c .bad3 .ensures ∙ field-not _ 12 4 (says (c .before .before .before .before .read-hex3 .ensures) (c .before .before .place3 .given .1)) (no-count _ (batch-is b) (index-is i))
+    c .bad3 .ensures ∙ field-not _ 12 4 (says (c .before .before .before .before .read-hex2 .ensures) (c .before .before .place3 .given .1)) (no-count _ (batch-is b) (index-is i))
 
-read-hex-requires-4 : tie.Need-read-hex-requires-4
-read-hex-requires-4 c κs = (omega arith, omega arith, omega arith, count-good (c .before))
+read-hex-requires-3 : tie.Need-read-hex-requires-3
+read-hex-requires-3 c κs = (omega arith, omega arith, omega arith, count-good (c .before))
 
 enum-known-n-4 : tie.Need-enum-known-n-4
 enum-known-n-4 c = search needs
@@ -131,10 +131,10 @@ returns-4 c =
     let n = c .before .before .before .before .before .before in
     let i = to-index n in
     let b = to-batch i in
-    c .bad4 .ensures ∙ field-not _ 16 2 (says (c .before .before .before .before .read-hex4 .ensures) (c .before .before .place4 .given .1)) (no-kind _ (batch-is b) (index-is i) (count-is n))
+    c .bad4 .ensures ∙ field-not _ 16 2 (says (c .before .before .before .before .read-hex3 .ensures) (c .before .before .place4 .given .1)) (no-kind _ (batch-is b) (index-is i) (count-is n))
 
-read-hex-requires-5 : tie.Need-read-hex-requires-5
-read-hex-requires-5 c κs = (omega arith, omega arith, omega arith, kind-good (c .before))
+read-long-requires-2 : tie.Need-read-long-requires-2
+read-long-requires-2 c κs = (omega arith, omega arith, kind-good (c .before))
 
 enum-known-n-5 : tie.Need-enum-known-n-5
 enum-known-n-5 c = search needs
@@ -151,10 +151,10 @@ returns-5 c =
     let n = to-count k in
     let i = to-index n in
     let b = to-batch i in
-    c .bad5 .ensures ∙ field-not _ 18 8 (says (c .before .before .before .before .read-hex5 .ensures) (c .before .before .place5 .given .1)) (no-key _ (batch-is b) (index-is i) (count-is n) (kind-is k))
+    c .bad5 .ensures ∙ field-not _ 18 8 (says (c .before .before .before .before .read-long2 .ensures) (c .before .before .place5 .given .1)) (no-key _ (batch-is b) (index-is i) (count-is n) (kind-is k))
 
-read-hex-requires-6 : tie.Need-read-hex-requires-6
-read-hex-requires-6 c κs = (omega arith, omega arith, omega arith, key-good (c .before))
+read-long-requires-3 : tie.Need-read-long-requires-3
+read-long-requires-3 c κs = (omega arith, omega arith, key-good (c .before))
 
 enum-known-n-6 : tie.Need-enum-known-n-6
 enum-known-n-6 c = search needs
@@ -172,7 +172,7 @@ returns-6 c =
     let n = to-count k in
     let i = to-index n in
     let b = to-batch i in
-    c .bad6 .ensures ∙ field-not _ 26 8 (says (c .before .before .before .before .read-hex6 .ensures) (c .before .before .place6 .given .1)) (no-value _ (batch-is b) (index-is i) (count-is n) (kind-is k) (key-is y))
+    c .bad6 .ensures ∙ field-not _ 26 8 (says (c .before .before .before .before .read-long3 .ensures) (c .before .before .place6 .given .1)) (no-value _ (batch-is b) (index-is i) (count-is n) (kind-is k) (key-is y))
 
 returns-7 : tie.Need-returns-7
 returns-7 c =
@@ -188,32 +188,32 @@ pub fields-spec : {M : Type 1} → statement M
 fields-spec =
     tie.close
     (tie.spec
-    read-hex-requires
+    read-long-requires
     enum-known-n
     enum-known-place
     bad-requires
     returns
-    read-hex-requires-2
+    read-hex-requires
     enum-known-n-2
     enum-known-place-2
     bad-requires-2
     returns-2
-    read-hex-requires-3
+    read-hex-requires-2
     enum-known-n-3
     enum-known-place-3
     bad-requires-3
     returns-3
-    read-hex-requires-4
+    read-hex-requires-3
     enum-known-n-4
     enum-known-place-4
     bad-requires-4
     returns-4
-    read-hex-requires-5
+    read-long-requires-2
     enum-known-n-5
     enum-known-place-5
     bad-requires-5
     returns-5
-    read-hex-requires-6
+    read-long-requires-3
     enum-known-n-6
     enum-known-place-6
     bad-requires-6
