@@ -49,6 +49,16 @@ pub enum Made {
     Full,
 }
 
+// The same answer, part by part. A copy of the whole has to wait for both its parts, which a maker has stored one by one only just before.
+pub fn again(made: Made) -> Made
+    ensures { λ r. ⌜ r ≡ made ⌝ }
+{
+    match made {
+        Made::At(n) => Made::At(n),
+        Made::Full => Made::Full,
+    }
+}
+
 // The root of version v.
 pub fn root(b: &[u32], v: u32) -> u32
     requires { ⌜ Shaped (now b) × (v < 16) ⌝ }
