@@ -7,7 +7,7 @@ use mathlib.Core.Bool.{Bool, true, false}
 use mathlib.Core.Option.{Option, none, some}
 use mathlib.Core.List.{List, [], _∷_, _++_}
 use lib.ListN.{length, getD, take, drop, length-drop}
-use lib.Seq.{take-suc, getD-drop, length-take-le}
+use lib.Seq.{take-suc, take-add, drop-drop, getD-drop, length-take-le}
 use lib.Dec.{ltb}
 use lib.Bits.{bitAnd, and-zero-r, and-block, and-mask}
 use borrow.Author.Tests.{ltb-true, ltb-false}
@@ -332,14 +332,20 @@ module _ (line : List ℕ) (at : ℕ) (inside : at + 8 ≤ length line) (f : (i 
   says-eight e q = ap some (q ∙ ap packedOf (v ∙ ap valuesOf is)) ∙ by-eight Good eight-good (take 8 (drop at line)) long bytes (sym texts-here ∙ e ∙ is)
 
 -- The bytes are taken in one after another.
-high-snoc : (n : ℕ) (xs : List ℕ) (c : ℕ) → highFirst n (xs ++ c ∷ []) ≡ highFirst n xs * 256 + c
+high-append : (n : ℕ) (xs ys : List ℕ) → highFirst n (xs ++ ys) ≡ highFirst (highFirst n xs) ys
 unfolding highFirst
-high-snoc n [] c = refl
-high-snoc n (x ∷ xs) c = high-snoc (n * 256 + x) xs c
+high-append n [] ys = refl
+high-append n (x ∷ xs) ys = high-append (n * 256 + x) xs ys
 
--- j of the eight bytes from `at` on gave x
+-- and a number before them goes up by as many places
+high-behind : (n : ℕ) (xs : List ℕ) → highFirst n xs ≡ n * 256 ^ length xs + highFirst 0 xs
+unfolding highFirst
+high-behind n [] = omega arith
+high-behind n (c ∷ cs) = rw (pow-suc 256 (length cs)) (omega (arith, high-behind (n * 256 + c) cs, high-behind (0 * 256 + c) cs))
+
+-- j of the four bytes from `at` on gave x
 pub record Taken (cs : List ℕ) (at x j : ℕ) : Type 0 where
-  pub upto : j ≤ 8
+  pub upto : j ≤ 4
   pub is : x ≡ highFirst 0 (take j (drop at cs))
   pub small : x < 256 ^ j
 
@@ -347,26 +353,31 @@ pub taken-none : (cs : List ℕ) (at : ℕ) → Taken cs at 0 0
 unfolding highFirst
 taken-none cs at = record { upto = omega arith; is = refl; small = omega arith }
 
-module _ {cs : List ℕ} {at x j : ℕ} (T : Taken cs at x j) (inside : at + 8 ≤ length cs) where
-  pub taken-more : j < 8 → getD cs (at + j) 0 < 256 → Taken cs at (x * 256 + getD cs (at + j) 0) (j + 1)
-  taken-more h b =
+module _ {cs : List ℕ} {at x j : ℕ} (T : Taken cs at x j) where
+  pub taken-more : at + 4 ≤ length cs → j < 4 → getD cs (at + j) 0 < 256 → Taken cs at (x * 256 + getD cs (at + j) 0) (j + 1)
+  unfolding highFirst
+  taken-more inside h b =
       let more = take-suc (drop at cs) j 0 (omega (arith, length-drop at cs, inside)) in
       let last = getD-drop at cs j 0 in
       record {
         upto = omega arith;
-        is = rw (add-one, more, last, high-snoc 0 (take j (drop at cs)) (getD cs (at + j) 0), ← T .is);
+        is = rw (add-one, more, last, high-append 0 (take j (drop at cs)) (getD cs (at + j) 0 ∷ []), ← T .is);
         small = rw (add-one, pow-suc 256 j) (omega (arith, T .small));
       }
 
-  pub taken-times : j < 8 → x * 256 < 2 ^ 64
-  taken-times h =
-      let most = pow-le-pow-right {n = 256} (omega arith) {i = j} {j = 7} (omega arith) in
+  pub taken-small : x < 4294967296
+  taken-small =
+      let most = pow-le-pow-right {n = 256} (omega arith) {i = j} {j = 4} (T .upto) in
       omega (arith, T .small, most)
 
-  pub taken-fit : j < 8 → getD cs (at + j) 0 < 256 → x * 256 + getD cs (at + j) 0 < 2 ^ 64
-  taken-fit h b =
-      let most = pow-le-pow-right {n = 256} (omega arith) {i = j + 1} {j = 8} (omega arith) in
-      omega (arith, taken-more h b .small, most)
+  pub taken-all : 4 ≤ j → x ≡ highFirst 0 (take 4 (drop at cs))
+  taken-all h = let e : j ≡ 4 = omega (arith, T .upto) in T .is ∙ ap (λ k. highFirst 0 (take k (drop at cs))) e
 
-  pub taken-all : 8 ≤ j → x ≡ highFirst 0 (take 8 (drop at cs))
-  taken-all h = let e : j ≡ 8 = omega (arith, T .upto) in T .is ∙ ap (λ k. highFirst 0 (take k (drop at cs))) e
+-- two times four are eight
+pub high-eight : (cs : List ℕ) (at : ℕ) → at + 8 ≤ length cs → {x y : ℕ} → x ≡ highFirst 0 (take 4 (drop at cs)) → y ≡ highFirst 0 (take 4 (drop (at + 4) cs))
+    → x * 4294967296 + y ≡ highFirst 0 (take 8 (drop at cs))
+high-eight cs at inside {x} {y} p q =
+    let ys = take 4 (drop (at + 4) cs) in
+    let long = length-take-le 4 (drop (at + 4) cs) (omega (arith, length-drop (at + 4) cs)) in
+    let behind : highFirst x ys ≡ x * 4294967296 + highFirst 0 ys = rw long at (high-behind x ys) in
+    rw (take-add 4 4 (drop at cs), drop-drop 4 at cs, high-append 0 (take 4 (drop at cs)) ys, ← p) (omega (arith, q, behind))

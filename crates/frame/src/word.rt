@@ -1,6 +1,6 @@
 // Eight digits at once, by sums on one word of 64 bits. Nothing is looked up, and no branch depends on which digits they are, but for all zeros.
 ghost use mathlib.Core.Path.{_≡_};
-ghost use Prim.Native.Nat.{_+_, _*_, _/_, _≤_};
+ghost use Prim.Native.Nat.{_+_, _*_, _/_, _<_, _≤_};
 ghost use lib.ListN.{length, take, drop};
 ghost use lib.Bits.{bitAnd};
 ghost use Rattle.model.specs.Frame as model;
@@ -41,18 +41,26 @@ fn packed(n: u64) -> u32
     ((z + z / 65536) % 4294967296) as u32
 }
 
-// The eight bytes from `at` on as one number, the first highest.
-fn bytes_at(line: &[u8], at: usize) -> u64
-    requires { ⌜ at + 8 ≤ length (now line) ⌝ }
-    ensures { λ r. ⌜ r ≡ highFirst 0 (take 8 (drop at (now (line .entry)))) ⌝ }
+// Four bytes from `at` on as one number, the first highest.
+fn four(line: &[u8], at: usize) -> u64
+    requires { ⌜ at + 4 ≤ length (now line) ⌝ }
+    ensures { λ r. ⌜ (r ≡ highFirst 0 (take 4 (drop at (now (line .entry))))) × (r < 4294967296) ⌝ }
 {
     let mut x: u64 = 0;
     let mut j: usize = 0;
-    while j < 8 {
+    while j < 4 {
         x = x * 256 + (line[at + j] as u64);
         j = j + 1;
     }
     x
+}
+
+// The eight bytes from `at` on as one number, the first highest. By halves, of which the compiler makes one load; eight steps in a row are too deep for it to see that.
+fn bytes_at(line: &[u8], at: usize) -> u64
+    requires { ⌜ at + 8 ≤ length (now line) ⌝ }
+    ensures { λ r. ⌜ r ≡ highFirst 0 (take 8 (drop at (now (line .entry)))) ⌝ }
+{
+    four(line, at) * 4294967296 + four(line, at + 4)
 }
 
 // The number in the eight digits from `at` on. The bytes are digits exactly where they are the bytes of what they would stand for.
