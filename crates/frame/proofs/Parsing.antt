@@ -1,15 +1,17 @@
 -- A line's fields are read in order, and the first that is no number makes the whole none.
 use mathlib.Core.Path.{_≡_, refl, ap, sym, _∙_}
 use mathlib.Core.Logic.{_⊎_, inl, inr}
-use Prim.Native.Nat.{ℕ}
+use Prim.Native.Nat.{ℕ, _/_, _%_}
 use mathlib.Core.Option.{Option, none, some}
 use mathlib.Core.List.{List}
 use native.Mathlib.Omega.{arith}
-use Rattle.model.specs.Frame.{Frame, field, fields, good, fault, firstBad, read}
+use lib.ListN.{length}
+use Rattle.model.specs.Frame.{_>>=_, Frame, field, fields, good, fault, firstBad, read}
 use Rattle.model.specs.Numbers.{DIGIT}
 use Rattle.model.proofs.Lines.{Closed, read-digit}
 use Rattle.frame.specs.declared.Number.{Number}
 use Rattle.frame.specs.Fields.{said, fieldRead, fieldsRead}
+use Rattle.frame.proofs.Reading.{side-by-side}
 
 -- what an answer that is x says
 pub says : {r x : Number} {o : ℕ ⊎ ℕ} → said r ≡ o → r ≡ x → said x ≡ o
@@ -34,41 +36,48 @@ field-not cs at k {p} e no-fields = go (field cs at k) refl
         rw (sym (no-fields (sym q)), fieldsRead) (ap (fault DIGIT) first)
     go (some m) q = let z : _≡_ {A = ℕ} 0 1 = cc (rw (q, fieldRead) at e) in absurd (omega arith)
 
--- the fields as they are read
+-- the fields as they are read: index and count are one number
 module _ (cs : List ℕ) where
   pub no-batch : none ≡ field cs 0 8 → none ≡ fields cs
   unfolding fields
   no-batch e = rw (sym e, fields)
 
-  module _ {batch : ℕ} (a : some batch ≡ field cs 0 8) where
-    pub no-index : none ≡ field cs 8 4 → none ≡ fields cs
+  -- those behind index and count
+  abbrev behind : (batch index count : ℕ) → Option Frame
+  behind batch index count = do
+    kind ← field cs 16 2
+    key ← field cs 18 8
+    value ← field cs 26 8
+    some (record { batch = batch; index = index; count = count; kind = kind; key = key; value = value })
+
+  module _ (long : length cs ≡ 35) {batch : ℕ} (a : some batch ≡ field cs 0 8) where
+    -- where batch is read, from index and count on
+    both-then : (field cs 8 8 >>= λ n. behind batch (n / 65536) (n % 65536)) ≡ fields cs
     unfolding fields
-    no-index e = rw (sym a, fields) (rw (sym e))
+    both-then = rw (sym a, fields) (side-by-side cs 8 (omega arith) (behind batch))
 
-    module _ {index : ℕ} (b : some index ≡ field cs 8 4) where
-      pub no-count : none ≡ field cs 12 4 → none ≡ fields cs
-      unfolding fields
-      no-count e = rw (sym a, fields) (rw (sym b) (rw (sym e)))
+    pub no-both : none ≡ field cs 8 8 → none ≡ fields cs
+    no-both e = rw (sym e) at both-then
 
-      module _ {count : ℕ} (c : some count ≡ field cs 12 4) where
-        pub no-kind : none ≡ field cs 16 2 → none ≡ fields cs
-        unfolding fields
-        no-kind e = rw (sym a, fields) (rw (sym b) (rw (sym c) (rw (sym e))))
+    module _ {both : ℕ} (b : some both ≡ field cs 8 8) where
+      -- where these two are read, from kind on
+      kind-then : behind batch (both / 65536) (both % 65536) ≡ fields cs
+      kind-then = rw (sym b) at both-then
 
-        module _ {kind : ℕ} (d : some kind ≡ field cs 16 2) where
-          pub no-key : none ≡ field cs 18 8 → none ≡ fields cs
-          unfolding fields
-          no-key e = rw (sym a, fields) (rw (sym b) (rw (sym c) (rw (sym d) (rw (sym e)))))
+      pub no-kind : none ≡ field cs 16 2 → none ≡ fields cs
+      no-kind e = rw (sym e) at kind-then
 
-          module _ {key : ℕ} (g : some key ≡ field cs 18 8) where
-            pub no-value : none ≡ field cs 26 8 → none ≡ fields cs
-            unfolding fields
-            no-value e = rw (sym a, fields) (rw (sym b) (rw (sym c) (rw (sym d) (rw (sym g) (rw (sym e))))))
+      module _ {kind : ℕ} (d : some kind ≡ field cs 16 2) where
+        pub no-key : none ≡ field cs 18 8 → none ≡ fields cs
+        no-key e = rw (sym e) at (rw (sym d) at kind-then)
 
-            pub all-read : {value : ℕ} → some value ≡ field cs 26 8
-                → some (record { batch = batch; index = index; count = count; kind = kind; key = key; value = value }) ≡ fields cs
-            unfolding fields
-            all-read e = rw (sym a, fields) (rw (sym b) (rw (sym c) (rw (sym d) (rw (sym g) (rw (sym e))))))
+        module _ {key : ℕ} (g : some key ≡ field cs 18 8) where
+          pub no-value : none ≡ field cs 26 8 → none ≡ fields cs
+          no-value e = rw (sym e) at (rw (sym g) at (rw (sym d) at kind-then))
+
+          pub all-read : {value : ℕ} → some value ≡ field cs 26 8
+              → some (record { batch = batch; index = both / 65536; count = both % 65536; kind = kind; key = key; value = value }) ≡ fields cs
+          all-read e = rw (sym e) at (rw (sym g) at (rw (sym d) at kind-then))
 
 -- the fields as the code answers them
 pub all-said : (cs : List ℕ) {f : Frame} → some f ≡ fields cs → good f ≡ fieldsRead cs

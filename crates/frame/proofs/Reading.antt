@@ -1,16 +1,16 @@
 -- Digits are read one after another: those that are left, behind the number so far, say what all of them say.
-use mathlib.Core.Path.{_≡_, refl, ap, sym, _∙_}
+use mathlib.Core.Path.{_≡_, refl, ap, ap₂, sym, _∙_}
 use mathlib.Core.Logic.{inl, inr}
-use Prim.Native.Nat.{ℕ, _+_, _*_, _^_, _≤_, _<_}
+use Prim.Native.Nat.{ℕ, suc, _+_, _*_, _/_, _%_, _^_, _≤_, _<_}
 use mathlib.Core.Option.{Option, none, some}
-use mathlib.Core.List.{List, [], _∷_}
+use mathlib.Core.List.{List, [], _∷_, _++_}
 use native.Mathlib.Numerals.{add-one}
-use native.Mathlib.Nat.{pow-suc, pow-le-pow-right}
+use native.Mathlib.Nat.{add-zero, pow-suc, pow-le-pow-right}
 use native.Mathlib.Omega.{arith}
 use lib.ListN.{length, getD, take, drop, length-drop, drop-of-length-le}
-use lib.Seq.{drop-cons, length-take-le, getD-take, getD-drop}
-use Rattle.model.specs.Frame.{value, number, field, firstBad}
-use Rattle.model.proofs.Digits.{digit-value, first-bad, first-more}
+use lib.Seq.{take-add, drop-drop, drop-cons, length-take-le, getD-take, getD-drop}
+use Rattle.model.specs.Frame.{_>>=_, value, number, field, firstBad}
+use Rattle.model.proofs.Digits.{digit-value, digits-number, first-bad, first-more}
 use Rattle.frame.specs.declared.Digit.{Digit}
 use Rattle.frame.specs.Fields.{digitOf, fieldRead}
 
@@ -72,3 +72,50 @@ module _ {cs : List ℕ} {at k n j : ℕ} (R : Reads cs at k n j) (inside : at +
       let z : drop j (take k (drop at cs)) ≡ [] = rw e (drop-of-length-le (take k (drop at cs)) {i = k} (omega (arith, long))) in
       let all : some n ≡ field cs at k = rw z at (R .rest) in
       rw (sym all, fieldRead)
+
+-- Numbers side by side: digits are read behind the number of those before
+number-append : (a : ℕ) (cs ds : List ℕ) → number a (cs ++ ds) ≡ (number a cs >>= λ n. number n ds)
+unfolding number
+number-append a [] ds = refl
+number-append a (c ∷ cs) ds = go (value c) refl (λ n. number-append n cs ds)
+  where
+    go : (o : Option ℕ) → value c ≡ o → ((n : ℕ) → number n (cs ++ ds) ≡ (number n cs >>= λ m. number m ds)) → number a (c ∷ cs ++ ds) ≡ (number a (c ∷ cs) >>= λ m. number m ds)
+    go none q ih = rw (q, number) refl
+    go (some d) q ih = rw (q, number) (ih (a * 16 + d))
+
+-- which goes up by as many places
+number-behind : (a b : ℕ) (cs : List ℕ) → number (a + b) cs ≡ (number b cs >>= λ n. some (a * 16 ^ length cs + n))
+unfolding number
+number-behind a b [] = ap some (omega arith)
+number-behind a b (c ∷ cs) = go (value c) refl (λ d. number-behind (a * 16) (b * 16 + d) cs)
+  where
+    go : (o : Option ℕ) → value c ≡ o → ((d : ℕ) → number (a * 16 + (b * 16 + d)) cs ≡ (number (b * 16 + d) cs >>= λ n. some (a * 16 * 16 ^ length cs + n)))
+        → number (a + b) (c ∷ cs) ≡ (number b (c ∷ cs) >>= λ n. some (a * 16 ^ suc (length cs) + n))
+    go none q ih = rw (q, number) refl
+    go (some d) q ih =
+        let sum : (a + b) * 16 + d ≡ a * 16 + (b * 16 + d) = omega arith in
+        let up : a * 16 ^ suc (length cs) ≡ a * 16 * 16 ^ length cs = rw (pow-suc 16 (length cs)) (omega arith) in
+        rw (q, number) (rw (sum, up) (ih d))
+
+-- so eight digits say what two times four say, the high ones first
+pub side-by-side : (cs : List ℕ) (at : ℕ) → at + 8 ≤ length cs → {A : Type 0} (f : ℕ → ℕ → Option A)
+    → (field cs at 8 >>= λ n. f (n / 65536) (n % 65536)) ≡ (field cs at 4 >>= λ i. field cs (at + 4) 4 >>= λ c. f i c)
+side-by-side cs at inside {A} f = rw (take-add 4 4 (drop at cs), drop-drop 4 at cs, number-append 0 (take 4 (drop at cs)) low) (first (field cs at 4))
+  where
+    low : List ℕ
+    low = take 4 (drop (at + 4) cs)
+
+    long : length low ≡ 4
+    long = length-take-le 4 (drop (at + 4) cs) (omega (arith, length-drop (at + 4) cs, inside))
+
+    second : (i : ℕ) (o : Option ℕ) → number 0 low ≡ o → (o >>= λ c. some (i * 65536 + c)) >>= (λ n. f (n / 65536) (n % 65536)) ≡ (o >>= λ c. f i c)
+    second i none q = refl
+    second i (some c) q =
+        let small = rw long at (digits-number low c q .1) in
+        ap₂ f (omega (arith, small)) (omega (arith, small))
+
+    first : (o : Option ℕ) → (o >>= λ n. number n low) >>= (λ n. f (n / 65536) (n % 65536)) ≡ (o >>= λ i. number 0 low >>= λ c. f i c)
+    first none = refl
+    first (some i) =
+        let behind : number i low ≡ (number 0 low >>= λ c. some (i * 65536 + c)) = rw (add-zero i, long) at (number-behind i 0 low) in
+        rw behind (second i (number 0 low) refl)

@@ -196,11 +196,8 @@ pub fn fields(line: &[u8]) -> Parsed
         Number::Is(n) => n,
         Number::Bad(place) => return bad(DIGIT, place),
     };
-    let index = match read_hex(line, 8, 4) {
-        Number::Is(n) => n,
-        Number::Bad(place) => return bad(DIGIT, place),
-    };
-    let count = match read_hex(line, 12, 4) {
+    // Index and count stand side by side, so one reading serves both.
+    let both = match read_long(line, 8) {
         Number::Is(n) => n,
         Number::Bad(place) => return bad(DIGIT, place),
     };
@@ -218,8 +215,8 @@ pub fn fields(line: &[u8]) -> Parsed
     };
     Parsed::Good(Frame {
         batch: batch,
-        index: index,
-        count: count,
+        index: both / 65536,
+        count: both % 65536,
         kind: kind,
         key: key,
         value: value,
