@@ -3,6 +3,7 @@ pub mod held;
 
 use block::Found;
 use block::Made;
+use block::again;
 use block::apart::take_apart;
 use block::is_absent;
 use block::make;
@@ -88,17 +89,17 @@ pub fn balanced(b: &mut [u32], low: &mut u32, key: u32, value: u32, left: u32, r
     let left_size = size_at(b, left);
     let right_size = size_at(b, right);
     if left_size + right_size < 2 {
-        return make(b, low, key, value, left, right);
+        return again(make(b, low, key, value, left, right));
     }
     let left_weight = left_size + 1;
     let right_weight = right_size + 1;
     if right_weight > 3 * left_weight {
-        return rotate_left(b, low, key, value, left, right);
+        return again(rotate_left(b, low, key, value, left, right));
     }
     if left_weight > 3 * right_weight {
-        return rotate_right(b, low, key, value, left, right);
+        return again(rotate_right(b, low, key, value, left, right));
     }
-    make(b, low, key, value, left, right)
+    again(make(b, low, key, value, left, right))
 }
 
 // A node of insert's path: a new key uses balanced makes, an equal key plain ones.
@@ -126,22 +127,22 @@ pub fn insert(b: &mut [u32], low: &mut u32, fresh: bool, n: u32, key: u32, value
     ensures { λ r. ⌜ Outcome (now (b .entry)) (now (b .exit)) (n ∷ []) r (insertBy (remade fresh) (tree (heap (now (b .entry))) n) key value) × Low (now (b .exit)) (now (low .exit)) ⌝ }
 {
     if n == 0 {
-        return make(b, low, key, value, 0, 0);
+        return again(make(b, low, key, value, 0, 0));
     }
     let node = take_apart(b, low, n);
     if key == node.key {
-        return remake(b, low, fresh, key, value, node.left, node.right);
+        return again(remake(b, low, fresh, key, value, node.left, node.right));
     }
     if key < node.key {
         let Made::At(left) = insert(b, low, fresh, node.left, key, value) else {
             return Made::Full;
         };
-        return remake(b, low, fresh, node.key, node.value, left, node.right);
+        return again(remake(b, low, fresh, node.key, node.value, left, node.right));
     }
     let Made::At(right) = insert(b, low, fresh, node.right, key, value) else {
         return Made::Full;
     };
-    remake(b, low, fresh, node.key, node.value, node.left, right)
+    again(remake(b, low, fresh, node.key, node.value, node.left, right))
 }
 
 // An entry taken out, and the node of the tree that is left.
@@ -210,18 +211,18 @@ pub fn remove(b: &mut [u32], low: &mut u32, n: u32, key: u32) -> Made
     }
     let node = take_apart(b, low, n);
     if key == node.key {
-        return without_key(b, low, node.left, node.right);
+        return again(without_key(b, low, node.left, node.right));
     }
     if key < node.key {
         let Made::At(left) = remove(b, low, node.left, key) else {
             return Made::Full;
         };
-        return balanced(b, low, node.key, node.value, left, node.right);
+        return again(balanced(b, low, node.key, node.value, left, node.right));
     }
     let Made::At(right) = remove(b, low, node.right, key) else {
         return Made::Full;
     };
-    balanced(b, low, node.key, node.value, node.left, right)
+    again(balanced(b, low, node.key, node.value, node.left, right))
 }
 
 // The tree below n without a key whose lookup gave f: an absent one makes nothing.

@@ -1,16 +1,19 @@
 -- The keys compared choose the rule's side; what is left there, and the side that stood, are the rule's trees. The node's size falls.
 use borrow.Author.Needs.{needs}
+use mathlib.Core.Path.{sym}
 use Prim.Native.Nat.{ℕ, _<_}
 use borrow.Fn.Kinds.{In, Out}
 use borrow.Fn.PlainCycle.{Measures, is, falls, and}
 use Rattle.tree.proofs.remove.Reads as remove
 use Rattle.tree.proofs.remove.Kinds as remove-kinds
 use Rattle.tree.proofs.+remove.Lts-remove as remove-lts
+use Rattle.block.proofs.again.Reads as again-reads
 use Rattle.block.proofs.apart.take_apart.Reads as take-apart-reads
 use Rattle.tree.proofs.balanced.Reads as balanced-reads
 use Rattle.tree.proofs.without_key.Reads as without-key-reads
 use Rattle.tree.proofs.+remove.{statement}
 use Rattle.tree.proofs.+remove.Tie.{close}
+use Rattle.block.proofs.again.Kinds as again-kinds
 use Rattle.block.proofs.apart.take_apart.Kinds as take-apart-kinds
 use Rattle.tree.proofs.balanced.Kinds as balanced-kinds
 use Rattle.tree.proofs.without_key.Kinds as without-key-kinds
@@ -31,8 +34,8 @@ remove-at t = and 2 remove-kinds.ps (is 2 remove-kinds.ps μ-remove t) remove.Pr
 abbrev remove-below : ℕ → In 2 remove-kinds.ps
 remove-below t = and 2 remove-kinds.ps (falls 2 remove-kinds.ps _<_ μ-remove t) remove.Pre
 
-abbrev calls : (t : ℕ) → In 2 take-apart-kinds.ps × Out 2 take-apart-kinds.ps take-apart-kinds.r × In 2 without-key-kinds.ps × Out 2 without-key-kinds.ps without-key-kinds.r × In 2 remove-kinds.ps × Out 2 remove-kinds.ps remove-kinds.r × In 2 balanced-kinds.ps × Out 2 balanced-kinds.ps balanced-kinds.r
-calls t = (take-apart-reads.Asked, take-apart-reads.Learnt, without-key-reads.Asked, without-key-reads.Learnt, remove-below t, remove.Post, balanced-reads.Asked, balanced-reads.Learnt)
+abbrev calls : (t : ℕ) → In 2 take-apart-kinds.ps × Out 2 take-apart-kinds.ps take-apart-kinds.r × In 2 without-key-kinds.ps × Out 2 without-key-kinds.ps without-key-kinds.r × In 0 again-kinds.ps × Out 0 again-kinds.ps again-kinds.r × In 2 remove-kinds.ps × Out 2 remove-kinds.ps remove-kinds.r × In 2 balanced-kinds.ps × Out 2 balanced-kinds.ps balanced-kinds.r
+calls t = (take-apart-reads.Asked, take-apart-reads.Learnt, without-key-reads.Asked, without-key-reads.Learnt, again-reads.Asked, again-reads.Learnt, remove-below t, remove.Post, balanced-reads.Asked, balanced-reads.Learnt)
 
 level : (t : ℕ) (c : remove-lts.After-take-apart (calls t) (remove-at t) remove.Post) → let a = c .before .before .before .before .before .args in Removing (a .b .now) (c .take-apart .last .0) (a .n) (c .take-apart .result) (a .key)
 level t c =
@@ -49,11 +52,14 @@ remove-take-apart-requires t c κs = let st = c .before .before .before .before 
 remove-without-key-requires : (t : ℕ) → remove-lts.Need-without-key-requires (calls t) (remove-at t) remove.Post
 remove-without-key-requires t c κs = (both (level t (c .before .before .before .before .before .before) .path), c .before .before .before .before .before .before .take-apart .ensures .2)
 
+remove-again-requires : (t : ℕ) → remove-lts.Need-again-requires (calls t) (remove-at t) remove.Post
+remove-again-requires t c κs = search needs
+
 remove-same-length : (t : ℕ) → remove-lts.Need-same-length (calls t) (remove-at t) remove.Post
 remove-same-length t c = search needs
 
 remove-returns-2 : (t : ℕ) → remove-lts.Need-returns-2 (calls t) (remove-at t) remove.Post
-remove-returns-2 t c = (remove-here (level t (c .before .before .before .before .before .before .before .before .before)) (c .before .before .before .before .before .if2 .taken) (c .before .before .without-key .ensures .0), c .before .before .without-key .ensures .1)
+remove-returns-2 t c = (remove-here (level t (c .before .before .before .before .before .before .before .before .before .before)) (c .before .before .before .before .before .before .if2 .taken) (told _ _ (sym (c .again .ensures)) (c .before .before .before .without-key .ensures .0)), c .before .before .before .without-key .ensures .1)
 
 remove-remove-requires : (t : ℕ) → remove-lts.Need-remove-requires (calls t) (remove-at t) remove.Post
 remove-remove-requires t c κs = let p = down-left (level t (c .before .before .before .before .before .before .before .before) .path) (c .before .before .before .before .before .before .before .before .before .before .before .before .before .pre .0) in (p .0, (p .1, c .before .before .before .before .before .before .before .before .take-apart .ensures .2))
@@ -73,11 +79,14 @@ remove-returns-3 t c = (above-stop (remove-left (level t (c .before .before .bef
 remove-balanced-requires : (t : ℕ) → remove-lts.Need-balanced-requires (calls t) (remove-at t) remove.Post
 remove-balanced-requires t c κs = (remove-left-asks (level t (c .before .before .before .before .before .before .before .before .before .before .before .before .before .before .before .before)) (told _ _ (c .before .before .before .left .given .1) (c .before .before .before .before .before .before .before .remove .ensures .0)), c .before .before .before .before .before .before .before .remove .ensures .1)
 
+remove-again-requires-2 : (t : ℕ) → remove-lts.Need-again-requires-2 (calls t) (remove-at t) remove.Post
+remove-again-requires-2 t c κs = search needs
+
 remove-same-length-3 : (t : ℕ) → remove-lts.Need-same-length-3 (calls t) (remove-at t) remove.Post
 remove-same-length-3 t c = search needs
 
 remove-returns-4 : (t : ℕ) → remove-lts.Need-returns-4 (calls t) (remove-at t) remove.Post
-remove-returns-4 t c = (above-last (remove-left (level t (c .before .before .before .before .before .before .before .before .before .before .before .before .before .before .before .before .before .before .before)) (c .before .before .before .before .before .before .before .before .before .before .before .before .before .if3 .taken)) (told _ _ (c .before .before .before .before .before .before .left .given .1) (c .before .before .before .before .before .before .before .before .before .before .remove .ensures .0)) (c .before .before .balanced .ensures .0), c .before .before .balanced .ensures .1)
+remove-returns-4 t c = (above-last (remove-left (level t (c .before .before .before .before .before .before .before .before .before .before .before .before .before .before .before .before .before .before .before .before)) (c .before .before .before .before .before .before .before .before .before .before .before .before .before .before .if3 .taken)) (told _ _ (c .before .before .before .before .before .before .before .left .given .1) (c .before .before .before .before .before .before .before .before .before .before .before .remove .ensures .0)) (told _ _ (sym (c .again2 .ensures)) (c .before .before .before .balanced .ensures .0)), c .before .before .before .balanced .ensures .1)
 
 remove-remove-requires-2 : (t : ℕ) → remove-lts.Need-remove-requires-2 (calls t) (remove-at t) remove.Post
 remove-remove-requires-2 t c κs = let p = down-right (level t (c .before .before .before .before .before .before .before .before) .path) (c .before .before .before .before .before .before .before .before .before .before .before .before .before .pre .0) in (p .0, (p .1, c .before .before .before .before .before .before .before .before .take-apart .ensures .2))
@@ -97,11 +106,14 @@ remove-returns-5 t c = (above-stop (remove-right (level t (c .before .before .be
 remove-balanced-requires-2 : (t : ℕ) → remove-lts.Need-balanced-requires-2 (calls t) (remove-at t) remove.Post
 remove-balanced-requires-2 t c κs = (remove-right-asks (level t (c .before .before .before .before .before .before .before .before .before .before .before .before .before .before .before .before)) (told _ _ (c .before .before .before .right .given .1) (c .before .before .before .before .before .before .before .remove2 .ensures .0)), c .before .before .before .before .before .before .before .remove2 .ensures .1)
 
+remove-again-requires-3 : (t : ℕ) → remove-lts.Need-again-requires-3 (calls t) (remove-at t) remove.Post
+remove-again-requires-3 t c κs = search needs
+
 remove-same-length-5 : (t : ℕ) → remove-lts.Need-same-length-5 (calls t) (remove-at t) remove.Post
 remove-same-length-5 t c = search needs
 
 remove-returns-6 : (t : ℕ) → remove-lts.Need-returns-6 (calls t) (remove-at t) remove.Post
-remove-returns-6 t c = (above-last-right (remove-right (level t (c .before .before .before .before .before .before .before .before .before .before .before .before .before .before .before .before .before .before .before)) (c .before .before .before .before .before .before .before .before .before .before .before .before .before .before .before .if2 .left) (c .before .before .before .before .before .before .before .before .before .before .before .before .before .if3 .left)) (told _ _ (c .before .before .before .before .before .before .right .given .1) (c .before .before .before .before .before .before .before .before .before .before .remove2 .ensures .0)) (c .before .before .balanced2 .ensures .0), c .before .before .balanced2 .ensures .1)
+remove-returns-6 t c = (above-last-right (remove-right (level t (c .before .before .before .before .before .before .before .before .before .before .before .before .before .before .before .before .before .before .before .before)) (c .before .before .before .before .before .before .before .before .before .before .before .before .before .before .before .before .if2 .left) (c .before .before .before .before .before .before .before .before .before .before .before .before .before .before .if3 .left)) (told _ _ (c .before .before .before .before .before .before .before .right .given .1) (c .before .before .before .before .before .before .before .before .before .before .before .remove2 .ensures .0)) (told _ _ (sym (c .again3 .ensures)) (c .before .before .before .balanced2 .ensures .0)), c .before .before .before .balanced2 .ensures .1)
 
 pub +remove-spec : {M : Type 1} → statement M
 +remove-spec = close μ-remove λ t. remove-lts.spec (calls t)
@@ -110,6 +122,7 @@ pub +remove-spec : {M : Type 1} → statement M
     (remove-returns t)
     (remove-take-apart-requires t)
     (remove-without-key-requires t)
+    (remove-again-requires t)
     (remove-same-length t)
     (remove-returns-2 t)
     (remove-remove-requires t)
@@ -118,6 +131,7 @@ pub +remove-spec : {M : Type 1} → statement M
     (remove-same-length-2 t)
     (remove-returns-3 t)
     (remove-balanced-requires t)
+    (remove-again-requires-2 t)
     (remove-same-length-3 t)
     (remove-returns-4 t)
     (remove-remove-requires-2 t)
@@ -126,5 +140,6 @@ pub +remove-spec : {M : Type 1} → statement M
     (remove-same-length-4 t)
     (remove-returns-5 t)
     (remove-balanced-requires-2 t)
+    (remove-again-requires-3 t)
     (remove-same-length-5 t)
     (remove-returns-6 t)
