@@ -1,6 +1,7 @@
 // Two trees joined around an entry or without one, and a tree split at a key.
 use block::Found;
 use block::Made;
+use block::again;
 use block::apart::take_apart;
 use block::size_at;
 use tree::Lost;
@@ -29,16 +30,16 @@ pub fn join(b: &mut [u32], low: &mut u32, key: u32, value: u32, left: u32, right
         let Made::At(new_left) = join(b, low, key, value, left, r.left) else {
             return Made::Full;
         };
-        return balanced(b, low, r.key, r.value, new_left, r.right);
+        return again(balanced(b, low, r.key, r.value, new_left, r.right));
     }
     if left_size > 3 * right_size {
         let l = take_apart(b, low, left);
         let Made::At(new_right) = join(b, low, key, value, l.right, right) else {
             return Made::Full;
         };
-        return balanced(b, low, l.key, l.value, l.left, new_right);
+        return again(balanced(b, low, l.key, l.value, l.left, new_right));
     }
-    balanced(b, low, key, value, left, right)
+    again(balanced(b, low, key, value, left, right))
 }
 
 // What is left of a key, its value, and what is right of it.
