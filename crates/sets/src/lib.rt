@@ -3,6 +3,7 @@ use crate::values::kept;
 use crate::values::merged;
 use block::Found;
 use block::Made;
+use block::again;
 use block::apart::take_apart;
 use block::size_at;
 use join::Parted;
@@ -71,7 +72,7 @@ pub fn union(b: &mut [u32], low: &mut u32, rule: u32, left: u32, right: u32) -> 
     let Made::At(new_right) = union(b, low, rule, z, w) else {
         return Made::Full;
     };
-    join(b, low, n.key, value, new_left, new_right)
+    again(join(b, low, n.key, value, new_left, new_right))
 }
 
 // The two sides with the root's entry between them where it stays, else without it.
@@ -80,8 +81,8 @@ fn rest(b: &mut [u32], low: &mut u32, left: u32, key: u32, stays: Found, right: 
     ensures { λ r. ⌜ Outcome (now (b .entry)) (now (b .exit)) (left ∷ right ∷ []) r (rest (tree (heap (now (b .entry))) left) key (answer stays) (tree (heap (now (b .entry))) right)) × Low (now (b .exit)) (now (low .exit)) ⌝ }
 {
     match stays {
-        Found::Value(value) => join(b, low, key, value, left, right),
-        Found::Absent => without_key(b, low, left, right),
+        Found::Value(value) => again(join(b, low, key, value, left, right)),
+        Found::Absent => again(without_key(b, low, left, right)),
     }
 }
 
@@ -118,5 +119,5 @@ pub fn difference(
     let Made::At(new_right) = difference(b, low, rule, cancel, l.right, r.right) else {
         return Made::Full;
     };
-    rest(b, low, new_left, l.key, stays, new_right)
+    again(rest(b, low, new_left, l.key, stays, new_right))
 }

@@ -1,8 +1,10 @@
 -- Difference ends because a child is smaller than its node; each level is a chain by the left root.
 use borrow.Author.Needs.{needs}
+use mathlib.Core.Path.{sym}
 use Prim.Native.Nat.{ℕ, _<_}
 use mathlib.Core.Logic.{inl, inr}
 use borrow.Fn.Kinds.{In, Out}
+use Rattle.block.proofs.again.Kinds as again-kinds
 use Rattle.block.proofs.apart.take_apart.Kinds as take-apart-kinds
 use Rattle.join.proofs.split.Kinds as split-kinds
 use Rattle.sets.proofs.values.kept.Kinds as kept-kinds
@@ -11,6 +13,7 @@ use borrow.Fn.PlainCycle.{Measures, is, falls, and}
 use Rattle.sets.proofs.difference.Reads as difference
 use Rattle.sets.proofs.difference.Kinds as difference-kinds
 use Rattle.sets.proofs.+difference.Lts-difference as difference-lts
+use Rattle.block.proofs.again.Reads as again-reads
 use Rattle.block.proofs.apart.take_apart.Reads as take-apart-reads
 use Rattle.join.proofs.split.Reads as split-reads
 use Rattle.sets.proofs.rest.Reads as rest-reads
@@ -37,8 +40,8 @@ abbrev difference-below : ℕ → In 2 difference-kinds.ps
 difference-below t =
     and 2 difference-kinds.ps (falls 2 difference-kinds.ps _<_ μ-difference t) difference.Pre
 
-abbrev calls : (t : ℕ) → In 2 take-apart-kinds.ps × Out 2 take-apart-kinds.ps take-apart-kinds.r × In 2 split-kinds.ps × Out 2 split-kinds.ps split-kinds.r × In 0 kept-kinds.ps × Out 0 kept-kinds.ps kept-kinds.r × In 2 difference-kinds.ps × Out 2 difference-kinds.ps difference-kinds.r × In 2 rest-kinds.ps × Out 2 rest-kinds.ps rest-kinds.r
-calls t = (take-apart-reads.Asked, take-apart-reads.Learnt, split-reads.Asked, split-reads.Learnt, kept-reads.Asked, kept-reads.Learnt, difference-below t, difference.Post, rest-reads.Asked, rest-reads.Learnt)
+abbrev calls : (t : ℕ) → In 2 take-apart-kinds.ps × Out 2 take-apart-kinds.ps take-apart-kinds.r × In 2 split-kinds.ps × Out 2 split-kinds.ps split-kinds.r × In 0 kept-kinds.ps × Out 0 kept-kinds.ps kept-kinds.r × In 2 difference-kinds.ps × Out 2 difference-kinds.ps difference-kinds.r × In 2 rest-kinds.ps × Out 2 rest-kinds.ps rest-kinds.r × In 0 again-kinds.ps × Out 0 again-kinds.ps again-kinds.r
+calls t = (take-apart-reads.Asked, take-apart-reads.Learnt, split-reads.Asked, split-reads.Learnt, kept-reads.Asked, kept-reads.Learnt, difference-below t, difference.Post, rest-reads.Asked, rest-reads.Learnt, again-reads.Asked, again-reads.Learnt)
 
 -- the premises of a level, once the root is read and is not cancelled
 root-at : (t : ℕ) (c : difference-lts.After-take-apart (calls t) (difference-at t) difference.Post) → let a = c .before .before .before .before .before .before .before .args in ByRoot (diffBy (a .rule)) (a .cancel) (a .b .now) (c .take-apart .last .0) (a .left) (a .right) (c .take-apart .result)
@@ -114,12 +117,15 @@ difference-rest-requires : (t : ℕ) → difference-lts.Need-rest-requires (call
 difference-rest-requires t c κs =
     (chain-last (root-at t (c .before .before .before .before .before .before .before .before .before .before .before .before .before .before .before .before .before .before .before .before .before .before .before .before .before .before .before .before .before)) (told-parts _ _ (c .before .before .before .before .before .before .before .before .before .before .before .before .before .before .before .before .before .before .before .before .r .given .1) (c .before .before .before .before .before .before .before .before .before .before .before .before .before .before .before .before .before .before .before .before .before .before .before .before .split .ensures .0)) (λ n lt. told _ _ (c .before .before .before .before .before .before .before .before .before .before .before .new-left .given .1) (c .before .before .before .before .before .before .before .before .before .before .before .before .before .before .before .difference .ensures .0)) (λ n lt. told _ _ (c .before .before .before .new-right .given .1) (c .before .before .before .before .before .before .before .difference2 .ensures .0)), c .before .before .before .before .before .before .before .difference2 .ensures .1)
 
+difference-again-requires : (t : ℕ) → difference-lts.Need-again-requires (calls t) (difference-at t) difference.Post
+difference-again-requires t c κs = search needs
+
 difference-same-length-4 : (t : ℕ) → difference-lts.Need-same-length-4 (calls t) (difference-at t) difference.Post
-difference-same-length-4 t c = search (needs, c .before .before .before .before .before .before .before .before .before .before .before .before .before .before .before .before .before .before .before .before .before .before .before .before .before .before .before .before .before .before .before .before .take-apart .kept, c .before .before .before .before .before .before .before .before .before .before .before .before .before .before .before .before .before .before .before .before .before .before .before .before .before .before .before .split .kept)
+difference-same-length-4 t c = search (needs, c .before .before .before .before .before .before .before .before .before .before .before .before .before .before .before .before .before .before .before .before .before .before .before .before .before .before .before .before .before .before .before .before .before .take-apart .kept, c .before .before .before .before .before .before .before .before .before .before .before .before .before .before .before .before .before .before .before .before .before .before .before .before .before .before .before .before .split .kept)
 
 difference-returns-7 : (t : ℕ) → difference-lts.Need-returns-7 (calls t) (difference-at t) difference.Post
 difference-returns-7 t c =
-    (settled _ (chain-done (root-at t (c .before .before .before .before .before .before .before .before .before .before .before .before .before .before .before .before .before .before .before .before .before .before .before .before .before .before .before .before .before .before .before .before)) (told-parts _ _ (c .before .before .before .before .before .before .before .before .before .before .before .before .before .before .before .before .before .before .before .before .before .before .before .r .given .1) (c .before .before .before .before .before .before .before .before .before .before .before .before .before .before .before .before .before .before .before .before .before .before .before .before .before .before .before .split .ensures .0)) (λ n lt. told _ _ (c .before .before .before .before .before .before .before .before .before .before .before .before .before .before .new-left .given .1) (c .before .before .before .before .before .before .before .before .before .before .before .before .before .before .before .before .before .before .difference .ensures .0)) (λ n lt. told _ _ (c .before .before .before .before .before .before .new-right .given .1) (c .before .before .before .before .before .before .before .before .before .before .difference2 .ensures .0)) (with-stays _ _ _ _ _ (c .before .before .before .before .before .before .before .before .before .before .before .before .before .before .before .before .before .before .before .before .before .kept .ensures) (c .before .before .rest .ensures .0))), c .before .before .rest .ensures .1)
+    (settled _ (chain-done (root-at t (c .before .before .before .before .before .before .before .before .before .before .before .before .before .before .before .before .before .before .before .before .before .before .before .before .before .before .before .before .before .before .before .before .before)) (told-parts _ _ (c .before .before .before .before .before .before .before .before .before .before .before .before .before .before .before .before .before .before .before .before .before .before .before .before .r .given .1) (c .before .before .before .before .before .before .before .before .before .before .before .before .before .before .before .before .before .before .before .before .before .before .before .before .before .before .before .before .split .ensures .0)) (λ n lt. told _ _ (c .before .before .before .before .before .before .before .before .before .before .before .before .before .before .before .new-left .given .1) (c .before .before .before .before .before .before .before .before .before .before .before .before .before .before .before .before .before .before .before .difference .ensures .0)) (λ n lt. told _ _ (c .before .before .before .before .before .before .before .new-right .given .1) (c .before .before .before .before .before .before .before .before .before .before .before .difference2 .ensures .0)) (with-stays _ _ _ _ _ (c .before .before .before .before .before .before .before .before .before .before .before .before .before .before .before .before .before .before .before .before .before .before .kept .ensures) (told _ _ (sym (c .again .ensures)) (c .before .before .before .rest .ensures .0)))), c .before .before .before .rest .ensures .1)
 
 pub +difference-spec : {M : Type 1} → statement M
 +difference-spec = close μ-difference λ t. difference-lts.spec (calls t)
@@ -146,5 +152,6 @@ pub +difference-spec : {M : Type 1} → statement M
     (difference-same-length-3 t)
     (difference-returns-6 t)
     (difference-rest-requires t)
+    (difference-again-requires t)
     (difference-same-length-4 t)
     (difference-returns-7 t)

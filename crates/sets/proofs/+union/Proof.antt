@@ -1,8 +1,10 @@
 -- Union ends because the parts together are smaller than the two trees, whose root is left out; each level is a chain by the root that is taken.
 use borrow.Author.Needs.{needs}
+use mathlib.Core.Path.{sym}
 use Prim.Native.Nat.{ℕ, _+_, _<_}
 use borrow.Fn.Kinds.{In, Out}
 use borrow.Fn.PlainCycle.{Measures, is, falls, and}
+use Rattle.block.proofs.again.Kinds as again-kinds
 use Rattle.block.proofs.apart.take_apart.Kinds as take-apart-kinds
 use Rattle.join.proofs.split.Kinds as split-kinds
 use Rattle.join.proofs.join.Kinds as join-kinds
@@ -12,6 +14,7 @@ use Rattle.sets.proofs.values.merged.Kinds as merged-kinds
 use Rattle.sets.proofs.union.Reads as union
 use Rattle.sets.proofs.union.Kinds as union-kinds
 use Rattle.sets.proofs.+union.Lts-union as union-lts
+use Rattle.block.proofs.again.Reads as again-reads
 use Rattle.block.proofs.apart.take_apart.Reads as take-apart-reads
 use Rattle.join.proofs.join.Reads as join-reads
 use Rattle.join.proofs.split.Reads as split-reads
@@ -23,6 +26,7 @@ use Rattle.sets.proofs.+union.Tie.{close}
 use Rattle.model.specs.Block.{heap}
 use Rattle.model.specs.Heap.{sizeAt}
 use Rattle.model.proofs.Lookups.{link-occupied}
+use Rattle.block.proofs.Outcomes.{told}
 use Rattle.join.proofs.Splitting.{told-parts}
 use Rattle.sets.specs.Words.{wordBy}
 use Rattle.sets.proofs.Chains.{chain-asks, chain-stop, chain-first, chain-stop-first, chain-second, chain-stop-second, chain-last, chain-done}
@@ -37,8 +41,8 @@ union-at t = and 2 union-kinds.ps (is 2 union-kinds.ps μ-union t) union.Pre
 abbrev union-below : ℕ → In 2 union-kinds.ps
 union-below t = and 2 union-kinds.ps (falls 2 union-kinds.ps _<_ μ-union t) union.Pre
 
-abbrev calls : (t : ℕ) → In 1 left-first-kinds.ps × Out 1 left-first-kinds.ps left-first-kinds.r × In 0 pick-kinds.ps × Out 0 pick-kinds.ps pick-kinds.r × In 2 take-apart-kinds.ps × Out 2 take-apart-kinds.ps take-apart-kinds.r × In 2 split-kinds.ps × Out 2 split-kinds.ps split-kinds.r × In 0 merged-kinds.ps × Out 0 merged-kinds.ps merged-kinds.r × In 2 union-kinds.ps × Out 2 union-kinds.ps union-kinds.r × In 2 join-kinds.ps × Out 2 join-kinds.ps join-kinds.r
-calls t = (left-first-reads.Asked, left-first-reads.Learnt, pick-reads.Asked, pick-reads.Learnt, take-apart-reads.Asked, take-apart-reads.Learnt, split-reads.Asked, split-reads.Learnt, merged-reads.Asked, merged-reads.Learnt, union-below t, union.Post, join-reads.Asked, join-reads.Learnt)
+abbrev calls : (t : ℕ) → In 1 left-first-kinds.ps × Out 1 left-first-kinds.ps left-first-kinds.r × In 0 pick-kinds.ps × Out 0 pick-kinds.ps pick-kinds.r × In 2 take-apart-kinds.ps × Out 2 take-apart-kinds.ps take-apart-kinds.r × In 2 split-kinds.ps × Out 2 split-kinds.ps split-kinds.r × In 0 merged-kinds.ps × Out 0 merged-kinds.ps merged-kinds.r × In 2 union-kinds.ps × Out 2 union-kinds.ps union-kinds.r × In 2 join-kinds.ps × Out 2 join-kinds.ps join-kinds.r × In 0 again-kinds.ps × Out 0 again-kinds.ps again-kinds.r
+calls t = (left-first-reads.Asked, left-first-reads.Learnt, pick-reads.Asked, pick-reads.Learnt, take-apart-reads.Asked, take-apart-reads.Learnt, split-reads.Asked, split-reads.Learnt, merged-reads.Asked, merged-reads.Learnt, union-below t, union.Post, join-reads.Asked, join-reads.Learnt, again-reads.Asked, again-reads.Learnt)
 
 -- the root that is taken and the other tree
 taken : (t : ℕ) (c : union-lts.After-pick2 (calls t) (union-at t) union.Post) → let a = c .before .before .before .before .before .before .before .args in Taken (a .b .now) (a .left) (a .right) (c .before .before .left-first .result) (c .before .pick .result) (c .pick2 .result)
@@ -129,11 +133,14 @@ union-returns-5 t c = (root-ends (c .before .before .before .before .before .bef
 union-join-requires : (t : ℕ) → union-lts.Need-join-requires (calls t) (union-at t) union.Post
 union-join-requires t c κs = (chain-last (level t (c .before .before .before .before .before .before .before .before .before .before .before .before .before .before .before .before .before .before .before .before .before .before .before .before .before .before .before .before .before .before .before .before .before)) (told-parts _ _ (c .before .before .before .before .before .before .before .before .before .before .before .before .before .before .before .before .before .before .before .before .before .before .before .before .p .given .1) (c .before .before .before .before .before .before .before .before .before .before .before .before .before .before .before .before .before .before .before .before .before .before .before .before .before .before .before .before .split .ensures .0)) (parts-fed (c .before .before .before .before .before .before .before .before .before .before .before .before .before .before .before .before .before .before .before .before .before .before .before .before .before .before .before .before .before .before .before .before .before .before .before .before .before .before .left-first .result) _ _ (c .before .before .before .before .before .before .before .before .before .before .before .before .before .before .before .before .before .before .before .before .before .pick3 .ensures) (c .before .before .before .before .before .before .before .before .before .before .before .before .before .before .before .before .before .before .before .before .pick4 .ensures) (told-union _ _ (c .before .before .before .before .before .before .before .before .before .before .before .before .before .new-left .given .1) (c .before .before .before .before .before .before .before .before .before .before .before .before .before .before .before .before .before .union .ensures .0))) (parts-fed (c .before .before .before .before .before .before .before .before .before .before .before .before .before .before .before .before .before .before .before .before .before .before .before .before .before .before .before .before .before .before .before .before .before .before .before .before .before .before .left-first .result) _ _ (c .before .before .before .before .before .before .before .before .before .before .before .pick5 .ensures) (c .before .before .before .before .before .before .before .before .before .before .pick6 .ensures) (told-union _ _ (c .before .before .before .new-right .given .1) (c .before .before .before .before .before .before .before .union2 .ensures .0))), c .before .before .before .before .before .before .before .union2 .ensures .1)
 
+union-again-requires : (t : ℕ) → union-lts.Need-again-requires (calls t) (union-at t) union.Post
+union-again-requires t c κs = search needs
+
 union-same-length-4 : (t : ℕ) → union-lts.Need-same-length-4 (calls t) (union-at t) union.Post
-union-same-length-4 t c = search (needs, c .before .before .before .before .before .before .before .before .before .before .before .before .before .before .before .before .before .before .before .before .before .before .before .before .before .before .before .before .before .before .before .before .before .before .before .before .take-apart .kept, c .before .before .before .before .before .before .before .before .before .before .before .before .before .before .before .before .before .before .before .before .before .before .before .before .before .before .before .before .before .before .before .split .kept)
+union-same-length-4 t c = search (needs, c .before .before .before .before .before .before .before .before .before .before .before .before .before .before .before .before .before .before .before .before .before .before .before .before .before .before .before .before .before .before .before .before .before .before .before .before .before .take-apart .kept, c .before .before .before .before .before .before .before .before .before .before .before .before .before .before .before .before .before .before .before .before .before .before .before .before .before .before .before .before .before .before .before .before .split .kept)
 
 union-returns-6 : (t : ℕ) → union-lts.Need-returns-6 (calls t) (union-at t) union.Post
-union-returns-6 t c = (root-ends (c .before .before .before .before .before .before .before .before .before .before .before .before .before .before .before .before .before .before .before .before .before .before .before .before .before .before .before .before .before .before .before .before .before .before .before .before .before .before .before .before .before .left-first .result) (taken t (c .before .before .before .before .before .before .before .before .before .before .before .before .before .before .before .before .before .before .before .before .before .before .before .before .before .before .before .before .before .before .before .before .before .before .before .before .before .before .before)) (chain-done (level t (c .before .before .before .before .before .before .before .before .before .before .before .before .before .before .before .before .before .before .before .before .before .before .before .before .before .before .before .before .before .before .before .before .before .before .before .before)) (told-parts _ _ (c .before .before .before .before .before .before .before .before .before .before .before .before .before .before .before .before .before .before .before .before .before .before .before .before .before .before .before .p .given .1) (c .before .before .before .before .before .before .before .before .before .before .before .before .before .before .before .before .before .before .before .before .before .before .before .before .before .before .before .before .before .before .before .split .ensures .0)) (parts-fed (c .before .before .before .before .before .before .before .before .before .before .before .before .before .before .before .before .before .before .before .before .before .before .before .before .before .before .before .before .before .before .before .before .before .before .before .before .before .before .before .before .before .left-first .result) _ _ (c .before .before .before .before .before .before .before .before .before .before .before .before .before .before .before .before .before .before .before .before .before .before .before .before .pick3 .ensures) (c .before .before .before .before .before .before .before .before .before .before .before .before .before .before .before .before .before .before .before .before .before .before .before .pick4 .ensures) (told-union _ _ (c .before .before .before .before .before .before .before .before .before .before .before .before .before .before .before .before .new-left .given .1) (c .before .before .before .before .before .before .before .before .before .before .before .before .before .before .before .before .before .before .before .before .union .ensures .0))) (parts-fed (c .before .before .before .before .before .before .before .before .before .before .before .before .before .before .before .before .before .before .before .before .before .before .before .before .before .before .before .before .before .before .before .before .before .before .before .before .before .before .before .before .before .left-first .result) _ _ (c .before .before .before .before .before .before .before .before .before .before .before .before .before .before .pick5 .ensures) (c .before .before .before .before .before .before .before .before .before .before .before .before .before .pick6 .ensures) (told-union _ _ (c .before .before .before .before .before .before .new-right .given .1) (c .before .before .before .before .before .before .before .before .before .before .union2 .ensures .0))) (with-value _ _ _ _ _ (c .before .before .before .before .before .before .before .before .before .before .before .before .before .before .before .before .before .before .before .before .before .before .before .before .before .merged .ensures) (c .before .before .join .ensures .0))), c .before .before .join .ensures .1)
+union-returns-6 t c = (root-ends (c .before .before .before .before .before .before .before .before .before .before .before .before .before .before .before .before .before .before .before .before .before .before .before .before .before .before .before .before .before .before .before .before .before .before .before .before .before .before .before .before .before .before .left-first .result) (taken t (c .before .before .before .before .before .before .before .before .before .before .before .before .before .before .before .before .before .before .before .before .before .before .before .before .before .before .before .before .before .before .before .before .before .before .before .before .before .before .before .before)) (chain-done (level t (c .before .before .before .before .before .before .before .before .before .before .before .before .before .before .before .before .before .before .before .before .before .before .before .before .before .before .before .before .before .before .before .before .before .before .before .before .before)) (told-parts _ _ (c .before .before .before .before .before .before .before .before .before .before .before .before .before .before .before .before .before .before .before .before .before .before .before .before .before .before .before .before .p .given .1) (c .before .before .before .before .before .before .before .before .before .before .before .before .before .before .before .before .before .before .before .before .before .before .before .before .before .before .before .before .before .before .before .before .split .ensures .0)) (parts-fed (c .before .before .before .before .before .before .before .before .before .before .before .before .before .before .before .before .before .before .before .before .before .before .before .before .before .before .before .before .before .before .before .before .before .before .before .before .before .before .before .before .before .before .left-first .result) _ _ (c .before .before .before .before .before .before .before .before .before .before .before .before .before .before .before .before .before .before .before .before .before .before .before .before .before .pick3 .ensures) (c .before .before .before .before .before .before .before .before .before .before .before .before .before .before .before .before .before .before .before .before .before .before .before .before .pick4 .ensures) (told-union _ _ (c .before .before .before .before .before .before .before .before .before .before .before .before .before .before .before .before .before .new-left .given .1) (c .before .before .before .before .before .before .before .before .before .before .before .before .before .before .before .before .before .before .before .before .before .union .ensures .0))) (parts-fed (c .before .before .before .before .before .before .before .before .before .before .before .before .before .before .before .before .before .before .before .before .before .before .before .before .before .before .before .before .before .before .before .before .before .before .before .before .before .before .before .before .before .before .left-first .result) _ _ (c .before .before .before .before .before .before .before .before .before .before .before .before .before .before .before .pick5 .ensures) (c .before .before .before .before .before .before .before .before .before .before .before .before .before .before .pick6 .ensures) (told-union _ _ (c .before .before .before .before .before .before .before .new-right .given .1) (c .before .before .before .before .before .before .before .before .before .before .before .union2 .ensures .0))) (with-value _ _ _ _ _ (c .before .before .before .before .before .before .before .before .before .before .before .before .before .before .before .before .before .before .before .before .before .before .before .before .before .before .merged .ensures) (told _ _ (sym (c .again .ensures)) (c .before .before .before .join .ensures .0)))), c .before .before .before .join .ensures .1)
 
 pub +union-spec : {M : Type 1} → statement M
 +union-spec = close μ-union λ t. union-lts.spec (calls t)
@@ -166,5 +173,6 @@ pub +union-spec : {M : Type 1} → statement M
     (union-same-length-3 t)
     (union-returns-5 t)
     (union-join-requires t)
+    (union-again-requires t)
     (union-same-length-4 t)
     (union-returns-6 t)
