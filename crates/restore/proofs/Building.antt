@@ -179,3 +179,17 @@ module _ {b t : List ℕ} (G : Begun b t) where
 
       pub both-made : {e : List ℕ} {q : Made} (x : Entry) → x ≡ entryAt t (half t) → Outcome d e (l ∷ r ∷ []) q (make (x .0) (x .1) (tree (heap d) l) (tree (heap d) r)) → Builds b e (entriesOf t) q
       both-made x p M = builds-all (G .holds) S x (λ d. middle-is d ∙ sym p) A B M
+
+-- A single line has no lines before it and none behind: both sides are empty, and one make is all.
+module _ {b t : List ℕ} (G : Begun b t) (single : length t < 34) where
+  before : Builds b b (entriesOf (first t)) (At 0)
+  before = builds-none b (entriesOf (first t)) (G .holds) (omega (arith, entries-length (first t) 0 (length (first t) / 17), first-length t (G .some)))
+
+  behind : Builds b b (entriesOf (second t)) (At 0)
+  behind = builds-none b (entriesOf (second t)) (G .holds) (omega (arith, entries-length (second t) 0 (length (second t) / 17), second-length t (G .some)))
+
+  pub single-asks : Asks b 0 0
+  single-asks = both-ask G before behind
+
+  pub single-made : {e : List ℕ} {q : Made} (x : Entry) → x ≡ entryAt t 0 → Outcome b e (0 ∷ 0 ∷ []) q (make (x .0) (x .1) (tree (heap b) 0) (tree (heap b) 0)) → Builds b e (entriesOf t) q
+  single-made x p M = both-made G before behind x (p ∙ ap (entryAt t) (omega arith)) M

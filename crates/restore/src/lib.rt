@@ -1,5 +1,6 @@
 // A version loaded from a sorted listing: lines of 16 digits and a newline, key then value, ascending.
 use block::Made;
+use block::again;
 use block::ends::settle;
 use block::long;
 use block::make;
@@ -9,7 +10,7 @@ use frame::word::read_eight;
 use table::checks::admit;
 ghost use mathlib.Core.Path.{_≡_};
 ghost use mathlib.Core.List.{[]};
-ghost use Prim.Native.Nat.{ℕ, _≤_};
+ghost use Prim.Native.Nat.{ℕ, _≤_, _<_};
 ghost use lib.ListN.{length};
 ghost use Rattle.model.specs.Text.{entryOf, entriesOf};
 ghost use Rattle.model.specs.Moves.{Holding};
@@ -112,14 +113,26 @@ fn first_fault(text: &[u8]) -> Answer
     Answer { number: 0, line: 0 }
 }
 
+// The tree of no line or of one. A node without children is made at once, so that `build` is called for few empty sides: they would be half of its calls.
+fn leaf(b: &mut [u32], low: &mut u32, text: &[u8]) -> Made
+    requires { ⌜ (Holding (now b) [] × (length (now text) < 34)) × Low (now b) (now low) ⌝ }
+    ensures { λ r. ⌜ ((fuel : ℕ) → length (entriesOf (now (text .entry))) ≤ fuel → Outcome (now (b .entry)) (now (b .exit)) [] r (built fuel (entriesOf (now (text .entry))))) × Low (now (b .exit)) (now (low .exit)) ⌝ }
+{
+    if text.len() < 17 {
+        return Made::At(0);
+    }
+    let e = entry_of(&text[..17]);
+    make(b, low, e.key, e.value, 0, 0)
+}
+
 // The tree of the lines: the middle line at the root, each side from its own part of the text, the left side first.
 fn build(b: &mut [u32], low: &mut u32, text: &[u8]) -> Made
     requires { ⌜ (Holding (now b) [] × (length (now text) ≤ 69632)) × Low (now b) (now low) ⌝ }
     ensures { λ r. ⌜ ((fuel : ℕ) → length (entriesOf (now (text .entry))) ≤ fuel → Outcome (now (b .entry)) (now (b .exit)) [] r (built fuel (entriesOf (now (text .entry))))) × Low (now (b .exit)) (now (low .exit)) ⌝ }
 {
     let n = text.len() / 17;
-    if n == 0 {
-        return Made::At(0);
+    if n < 2 {
+        return leaf(b, low, text);
     }
     let m = n / 2;
     let mid = 17 * m;
@@ -131,7 +144,7 @@ fn build(b: &mut [u32], low: &mut u32, text: &[u8]) -> Made
         return Made::Full;
     };
     let e = entry_of(&text[mid..next]);
-    make(b, low, e.key, e.value, left, right)
+    again(make(b, low, e.key, e.value, left, right))
 }
 
 // Version v becomes the tree of the lines; its old tree is given up at the end. No block has room for more than 4,096 lines, so a longer text is not built.

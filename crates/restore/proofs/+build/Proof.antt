@@ -1,22 +1,26 @@
--- Building ends because each part is shorter than the text; each level makes one node of its two sides.
+-- Building ends because each part is shorter than the text; each level makes one node of its two sides, and at most one line is a leaf.
 use borrow.Author.Needs.{needs}
 use native.Mathlib.Omega.{arith}
-use mathlib.Core.Path.{refl, sym, _∙_}
-use Prim.Native.Nat.{ℕ, _+_, _*_, _/_, _<_}
+use mathlib.Core.Path.{refl, sym, subst, _∙_}
+use Prim.Native.Nat.{ℕ, _+_, _*_, _<_}
 use lib.ListN.{length}
 use borrow.Fn.Kinds.{In, Out}
 use borrow.Fn.PlainCycle.{Measures, is, falls, and}
 use Rattle.model.specs.Text.{entriesOf}
-use Rattle.model.proofs.Texts.{entries-length}
+use Rattle.block.specs.declared.Made.{Made}
 use Rattle.block.specs.declared.Made.the-variants.{At}
 use Rattle.block.proofs.Outcomes.{told}
+use Rattle.block.proofs.again.Kinds as again-kinds
+use Rattle.block.proofs.again.Reads as again-reads
 use Rattle.block.proofs.make.Kinds as make-kinds
 use Rattle.block.proofs.make.Reads as make-reads
 use Rattle.restore.specs.Answers.{pair}
 use Rattle.restore.proofs.Looking.{piece-entry, piece-long}
-use Rattle.restore.proofs.Building.{Builds, builds-none, half, first, second, first-length, second-length, Begun, no-first, first-holds, no-second, both-ask, both-made}
+use Rattle.restore.proofs.Building.{Builds, half, first, second, first-length, second-length, Begun, no-first, first-holds, no-second, both-ask, both-made}
 use Rattle.restore.proofs.entry_of.Kinds as entry-of-kinds
 use Rattle.restore.proofs.entry_of.Reads as entry-of-reads
+use Rattle.restore.proofs.leaf.Kinds as leaf-kinds
+use Rattle.restore.proofs.leaf.Reads as leaf-reads
 use Rattle.restore.proofs.build.Reads as build
 use Rattle.restore.proofs.build.Kinds as build-kinds
 use Rattle.restore.proofs.+build.Lts-build as build-lts
@@ -32,8 +36,8 @@ build-at t = and 3 build-kinds.ps (is 3 build-kinds.ps μ-build t) build.Pre
 abbrev build-below : ℕ → In 3 build-kinds.ps
 build-below t = and 3 build-kinds.ps (falls 3 build-kinds.ps _<_ μ-build t) build.Pre
 
-abbrev calls : (t : ℕ) → In 3 build-kinds.ps × Out 3 build-kinds.ps build-kinds.r × In 1 entry-of-kinds.ps × Out 1 entry-of-kinds.ps entry-of-kinds.r × In 2 make-kinds.ps × Out 2 make-kinds.ps make-kinds.r
-calls t = (build-below t, build.Post, entry-of-reads.Asked, entry-of-reads.Learnt, make-reads.Asked, make-reads.Learnt)
+abbrev calls : (t : ℕ) → In 3 leaf-kinds.ps × Out 3 leaf-kinds.ps leaf-kinds.r × In 3 build-kinds.ps × Out 3 build-kinds.ps build-kinds.r × In 1 entry-of-kinds.ps × Out 1 entry-of-kinds.ps entry-of-kinds.r × In 2 make-kinds.ps × Out 2 make-kinds.ps make-kinds.r × In 0 again-kinds.ps × Out 0 again-kinds.ps again-kinds.r
+calls t = (leaf-reads.Asked, leaf-reads.Learnt, build-below t, build.Post, entry-of-reads.Asked, entry-of-reads.Learnt, make-reads.Asked, make-reads.Learnt, again-reads.Asked, again-reads.Learnt)
 
 abbrev start : (t : ℕ) → build-lts.Else1 (calls t) (build-at t) build.Post → build-lts.Start (calls t) (build-at t) build.Post
 start t c = c .before .before .before
@@ -55,10 +59,16 @@ left-side t c fuel h = told _ _ (c .left .given .1) (c .before .before .before .
 right-side : (t : ℕ) (c : build-lts.After-right (calls t) (build-at t) build.Post) → let l = to-left t c in Builds (l .before .before .before .before .build .last .0) (c .before .before .before .before .build2 .last .0) (entriesOf (second (start t (to-else t l) .args .text .now))) (At (c .right .given .0 .0))
 right-side t c fuel h = told _ _ (c .right .given .1) (c .before .before .before .before .build2 .ensures .0 fuel h)
 
+build-leaf-requires : (t : ℕ) → build-lts.Need-leaf-requires (calls t) (build-at t) build.Post
+build-leaf-requires t c κs =
+    let s = c .before .before .before .before .before in
+    ((s .pre .1 .0 .0, omega (arith, c .before .before .if1 .taken)), s .pre .1 .1)
+
+build-same-length : (t : ℕ) → build-lts.Need-same-length (calls t) (build-at t) build.Post
+build-same-length t c = search needs
+
 build-returns : (t : ℕ) → build-lts.Need-returns (calls t) (build-at t) build.Post
-build-returns t c =
-    let s = c .before .before .before in
-    (builds-none _ _ (s .pre .1 .0 .0) (entries-length (s .args .text .now) 0 (length (s .args .text .now) / 17) ∙ c .if1 .taken), s .pre .1 .1)
+build-returns t c = c .before .before .leaf .ensures
 
 build-mul-mid : (t : ℕ) → build-lts.Need-mul-mid (calls t) (build-at t) build.Post
 build-mul-mid t c = omega arith
@@ -82,8 +92,8 @@ build-enum-known-left t c = search needs
 build-enum-told : (t : ℕ) → build-lts.Need-enum-told (calls t) (build-at t) build.Post
 build-enum-told t c = search needs
 
-build-same-length : (t : ℕ) → build-lts.Need-same-length (calls t) (build-at t) build.Post
-build-same-length t c = search needs
+build-same-length-2 : (t : ℕ) → build-lts.Need-same-length-2 (calls t) (build-at t) build.Post
+build-same-length-2 t c = search needs
 
 build-returns-2 : (t : ℕ) → build-lts.Need-returns-2 (calls t) (build-at t) build.Post
 build-returns-2 t c =
@@ -113,8 +123,8 @@ build-enum-known-right t c = search needs
 build-enum-told-2 : (t : ℕ) → build-lts.Need-enum-told-2 (calls t) (build-at t) build.Post
 build-enum-told-2 t c = search needs
 
-build-same-length-2 : (t : ℕ) → build-lts.Need-same-length-2 (calls t) (build-at t) build.Post
-build-same-length-2 t c = search needs
+build-same-length-3 : (t : ℕ) → build-lts.Need-same-length-3 (calls t) (build-at t) build.Post
+build-same-length-3 t c = search needs
 
 build-returns-3 : (t : ℕ) → build-lts.Need-returns-3 (calls t) (build-at t) build.Post
 build-returns-3 t c =
@@ -141,22 +151,29 @@ build-make-requires t c κs =
     let l = to-left t r in
     (both-ask (begun t (to-else t l)) (left-side t l) (right-side t r), r .before .before .before .before .build2 .ensures .1)
 
-build-same-length-3 : (t : ℕ) → build-lts.Need-same-length-3 (calls t) (build-at t) build.Post
-build-same-length-3 t c = search needs
+build-again-requires : (t : ℕ) → build-lts.Need-again-requires (calls t) (build-at t) build.Post
+build-again-requires t c κs = search needs
+
+build-same-length-4 : (t : ℕ) → build-lts.Need-same-length-4 (calls t) (build-at t) build.Post
+build-same-length-4 t c = search needs
 
 build-returns-4 : (t : ℕ) → build-lts.Need-returns-4 (calls t) (build-at t) build.Post
 build-returns-4 t c =
-    let r = c .before .before .before .before .before .before .before .before in
+    let r = c .before .before .before .before .before .before .before .before .before in
     let l = to-left t r in
     let text = start t (to-else t l) .args .text .now in
-    let e = c .before .before .before .before .before .entry-of in
+    let e = c .before .before .before .before .before .before .entry-of in
+    let m = c .before .before .before .make in
     let is = e .ensures ∙ piece-entry text (half text) (17 * half text) (17 * half text + 17) refl refl in
-    (both-made (begun t (to-else t l)) (left-side t l) (right-side t r) (pair (e .result)) is (c .before .before .make .ensures .0), c .before .before .make .ensures .1)
+    let made = both-made (begun t (to-else t l)) (left-side t l) (right-side t r) (pair (e .result)) is (m .ensures .0) in
+    (subst (λ (q : Made). Builds (start t (to-else t l) .args .b .now) (m .last .0) (entriesOf text) q) (sym (c .again .ensures)) made, m .ensures .1)
 
 pub +build-spec : {M : Type 1} → statement M
 +build-spec = close μ-build λ t. build-lts.spec (calls t)
     (build-at t)
     build.Post
+    (build-leaf-requires t)
+    (build-same-length t)
     (build-returns t)
     (build-mul-mid t)
     (build-add-next t)
@@ -164,7 +181,7 @@ pub +build-spec : {M : Type 1} → statement M
     (build-build-requires t)
     (build-enum-known-left t)
     (build-enum-told t)
-    (build-same-length t)
+    (build-same-length-2 t)
     (build-returns-2 t)
     (build-sub-build t)
     (build-part-build-start t)
@@ -172,12 +189,13 @@ pub +build-spec : {M : Type 1} → statement M
     (build-build-requires-2 t)
     (build-enum-known-right t)
     (build-enum-told-2 t)
-    (build-same-length-2 t)
+    (build-same-length-3 t)
     (build-returns-3 t)
     (build-sub-entry-of t)
     (build-part-entry-of-start t)
     (build-part-entry-of-end t)
     (build-entry-of-requires t)
     (build-make-requires t)
-    (build-same-length-3 t)
+    (build-again-requires t)
+    (build-same-length-4 t)
     (build-returns-4 t)
