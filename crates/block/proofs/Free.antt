@@ -1,5 +1,5 @@
 -- The search for the lowest free node.
-use mathlib.Core.Path.{_≡_, refl, ap, _∙_}
+use mathlib.Core.Path.{_≡_, refl, sym, ap, _∙_}
 use mathlib.Core.Logic.{_≢_}
 use mathlib.Core.Bool.{Bool, true, false}
 use mathlib.Core.List.{List, [], _∷_}
@@ -10,12 +10,12 @@ use native.Mathlib.Decide.{ℕ-discrete}
 use lib.ListN.{drop}
 use lib.Bits.{bitAnd, and-le-l, and-le-r}
 use lib.Dec.{eqb}
-use lib.Count.{trailingZeros, trailing-of-zero}
+use lib.Count.{trailing-of-zero}
 use borrow.Author.Tests.{lt-ltb}
 use Rattle.model.specs.Block.{word, room, bit, occupiedAt, Words}
 use Rattle.model.specs.Supply.{firstOf}
 use Rattle.model.specs.Heap.{freeFrom}
-use Rattle.block.specs.Words.{FullWords}
+use Rattle.block.specs.Words.{FullWords, firstZero}
 use Rattle.model.proofs.Bits.{below-all-set, at-clear}
 
 -- nodes that are taken are passed over
@@ -33,10 +33,6 @@ pub none-left : (occ : ℕ → Bool) (a : ℕ) → firstOf (freeFrom occ a 0) �
 unfolding freeFrom firstOf
 none-left occ a = refl
 
--- the first 0 of an occupancy word, as the code finds it
-abbrev pub low0 : List ℕ → ℕ → ℕ
-low0 b w = trailingZeros 32 (2 ^ 32 - 1 - word b (17 + w))
-
 module _ (b : List ℕ) (w : ℕ) (fits : word b (17 + w) < 2 ^ 32) (whole : room b % 32 ≡ 0) (in-range : w < room b / 32) where
   occupied-in : (x j : ℕ) → x ≡ suc (32 * w + j) → j < 32 → occupiedAt b x ≡ eqb (bit (word b (17 + w)) j) 1
   occupied-in x j e lt =
@@ -44,29 +40,31 @@ module _ (b : List ℕ) (w : ℕ) (fits : word b (17 + w) < 2 ^ 32) (whole : roo
       let r : (32 * w + j) % 32 ≡ j = omega arith in
       rw e (rw (lt-ltb (32 * w + j) (room b) (omega arith), q, r))
 
-  taken-in : (m : ℕ) → m ≤ 32 → m ≤ low0 b w → (x : ℕ) → suc (32 * w) ≤ x → x < suc (32 * w) + m → occupiedAt b x ≡ true
+  taken-in : (m : ℕ) → m ≤ 32 → m ≤ firstZero b w → (x : ℕ) → suc (32 * w) ≤ x → x < suc (32 * w) + m → occupiedAt b x ≡ true
   taken-in m six le x p q = occupied-in x (x - suc (32 * w)) (omega arith) (omega arith) ∙ rw (below-all-set 32 (word b (17 + w)) (x - suc (32 * w)) fits (omega arith))
 
-  -- every node of word w is taken
-  pub over-word : 32 ≤ low0 b w → freeFrom (occupiedAt b) (suc (32 * w)) (room b - 32 * w) ≡ freeFrom (occupiedAt b) (suc (32 * (w + 1))) (room b - 32 * (w + 1))
-  over-word full =
-      let split : room b - 32 * w ≡ 32 + (room b - 32 * (w + 1)) = omega arith in
-      let next : suc (32 * w) + 32 ≡ suc (32 * (w + 1)) = omega arith in
-      ap (λ k. freeFrom (occupiedAt b) (suc (32 * w)) k) split
-      ∙ skip (occupiedAt b) 32 (suc (32 * w)) (room b - 32 * (w + 1)) (taken-in 32 (omega arith) full)
-      ∙ ap (λ j. freeFrom (occupiedAt b) j (room b - 32 * (w + 1))) next
+  -- t is the place of its lowest 0
+  module _ (t : ℕ) (is : t ≡ firstZero b w) where
+    -- every node of word w is taken
+    pub over-word : 32 ≤ t → freeFrom (occupiedAt b) (suc (32 * w)) (room b - 32 * w) ≡ freeFrom (occupiedAt b) (suc (32 * (w + 1))) (room b - 32 * (w + 1))
+    over-word full =
+        let split : room b - 32 * w ≡ 32 + (room b - 32 * (w + 1)) = omega arith in
+        let next : suc (32 * w) + 32 ≡ suc (32 * (w + 1)) = omega arith in
+        ap (λ k. freeFrom (occupiedAt b) (suc (32 * w)) k) split
+        ∙ skip (occupiedAt b) 32 (suc (32 * w)) (room b - 32 * (w + 1)) (taken-in 32 (omega arith) (omega arith))
+        ∙ ap (λ j. freeFrom (occupiedAt b) j (room b - 32 * (w + 1))) next
 
-  -- bit `low0 b w` of word w is the first free node's
-  pub in-word : low0 b w < 32 → firstOf (freeFrom (occupiedAt b) (suc (32 * w)) (room b - 32 * w)) ≡ 32 * w + low0 b w + 1
-  in-word h =
-      let split : room b - 32 * w ≡ low0 b w + suc (room b - 32 * w - low0 b w - 1) = omega arith in
-      ap (λ k. firstOf (freeFrom (occupiedAt b) (suc (32 * w)) k)) split
-      ∙ ap firstOf (skip (occupiedAt b) (low0 b w) (suc (32 * w)) (suc (room b - 32 * w - low0 b w - 1)) (taken-in (low0 b w) (omega arith) (omega arith)))
-      ∙ here (occupiedAt b) (suc (32 * w) + low0 b w) (room b - 32 * w - low0 b w - 1) (occupied-in (suc (32 * w) + low0 b w) (low0 b w) (omega arith) h ∙ rw (at-clear 32 (word b (17 + w)) fits h))
-      ∙ omega arith
+    -- bit t of word w is the first free node's
+    pub in-word : t < 32 → firstOf (freeFrom (occupiedAt b) (suc (32 * w)) (room b - 32 * w)) ≡ 32 * w + t + 1
+    in-word h =
+        let split : room b - 32 * w ≡ t + suc (room b - 32 * w - t - 1) = omega arith in
+        ap (λ k. firstOf (freeFrom (occupiedAt b) (suc (32 * w)) k)) split
+        ∙ ap firstOf (skip (occupiedAt b) t (suc (32 * w)) (suc (room b - 32 * w - t - 1)) (taken-in t (omega arith) (omega arith)))
+        ∙ here (occupiedAt b) (suc (32 * w) + t) (room b - 32 * w - t - 1) (occupied-in (suc (32 * w) + t) t (omega arith) h ∙ rw (is, at-clear 32 (word b (17 + w)) fits (omega arith)))
+        ∙ omega arith
 
 -- words of all ones are passed over
-full-word : (b : List ℕ) (w : ℕ) → word b (17 + w) ≡ 4294967295 → low0 b w ≡ 32
+full-word : (b : List ℕ) (w : ℕ) → word b (17 + w) ≡ 4294967295 → firstZero b w ≡ 32
 full-word b w e = rw e (trailing-of-zero 32)
 
 pub over-words : (b : List ℕ) (n w : ℕ) → room b % 32 ≡ 0 → w + n ≤ room b / 32 → FullWords b w n
@@ -76,7 +74,7 @@ over-words b (suc n) w whole le f =
     let low : 17 + w ≡ 17 + (w + 0) = omega arith in
     let here : word b (17 + w) ≡ 4294967295 = ap (word b) low ∙ f 0 (omega arith) in
     let next : w + 1 + n ≡ w + suc n = omega arith in
-    over-word b w (omega (arith, here)) whole (omega arith) (omega (arith, full-word b w here))
+    over-word b w (omega (arith, here)) whole (omega arith) 32 (sym (full-word b w here)) (omega arith)
     ∙ over-words b n (w + 1) whole (omega arith) (λ i lt. let q : 17 + (w + 1 + i) ≡ 17 + (w + suc i) = omega arith in ap (word b) q ∙ f (suc i) (omega arith))
     ∙ ap (λ x. freeFrom (occupiedAt b) (suc (32 * x)) (room b - 32 * x)) next
 

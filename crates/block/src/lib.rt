@@ -15,7 +15,7 @@ ghost use mathlib.Core.List.{[], _∷_};
 ghost use Rattle.model.specs.Moves.{Raised, Holding};
 ghost use Rattle.model.specs.Block.{heap, room, width, nodeWord, occupiedAt, Shaped};
 ghost use Rattle.model.specs.Supply.{make};
-ghost use Rattle.block.specs.Words.{FullWords};
+ghost use Rattle.block.specs.Words.{FullWords, firstZero};
 ghost use Rattle.block.specs.Low.{Low};
 ghost use Rattle.block.specs.Outcome.{Outcome, isAbsent, nodeOf};
 
@@ -129,6 +129,14 @@ pub fn raise(b: &mut [u32], n: u32)
     }
 }
 
+// The lowest bit of occupancy word w that is 0, or 32.
+fn first_zero(b: &[u32], w: u32) -> u32
+    requires { ⌜ Shaped (now b) × (w < room (now b) / 32) ⌝ }
+    ensures { λ r. ⌜ r ≡ firstZero (now (b .entry)) w ⌝ }
+{
+    u32::trailing_zeros(!b[(17 + w) as usize])
+}
+
 // Whether the eight occupancy words from w on are all ones: only then do they have all bits in common.
 fn eight_full(b: &[u32], w: u32) -> bool
     requires { ⌜ Shaped (now b) × (w + 8 ≤ room (now b) / 32) ⌝ }
@@ -155,17 +163,23 @@ fn full_words(b: &[u32], from: u32, m: u32) -> u32
     w
 }
 
-// The lowest unoccupied node, or 0: the first word that is not all ones has it. No node below `low` is free, so the search begins at its word.
+// The lowest unoccupied node, or 0: the first word that is not all ones has it. No node below `low` is free, so the search begins at its word. That one is
+// looked at alone first: a make has only just stored it, and a reading of eight words at once would have to wait for the store.
 fn lowest_free(b: &[u32], low: u32) -> u32
     requires { ⌜ Shaped (now b) × Low (now b) low ⌝ }
     ensures { λ r. ⌜ r ≡ lowest (heap (now (b .entry))) ⌝ }
 {
     let m = b[0] / 32;
-    let mut w = full_words(b, (low - 1) / 32, m);
+    let first = (low - 1) / 32;
+    if first < m {
+        let t = first_zero(b, first);
+        if t < 32 {
+            return 32 * first + t + 1;
+        }
+    }
+    let mut w = full_words(b, first, m);
     while w < m {
-        let k = (17 + w) as usize;
-        let x = b[k];
-        let t = u32::trailing_zeros(!x);
+        let t = first_zero(b, w);
         if t < 32 {
             return 32 * w + t + 1;
         }
