@@ -7,10 +7,12 @@ use crate::words::free_bit;
 use crate::words::set_word;
 use crate::words::write;
 ghost use mathlib.Core.Path.{_≡_};
-ghost use Prim.Native.Nat.{ℕ, _+_, _<_, _≤_};
+ghost use mathlib.Core.Bool.{true};
+ghost use Prim.Native.Nat.{ℕ, _+_, _-_, _/_, _<_, _≤_};
 ghost use Rattle.model.specs.Heap.{Named, Occupied, Linked};
 ghost use Rattle.model.specs.Moves.{Lowered, Emptied, Owed, Paid, Unnamed, Freed, Rooted, Running, HeldBelow, Tidied, Swept, Finished};
 ghost use Rattle.model.specs.Block.{heap, room, nodeWord, Shaped};
+ghost use Rattle.block.specs.Words.{FreeWords};
 ghost use Rattle.block.specs.Outcome.{Stands, Settled};
 
 const NO_ROOM: u32 = 5;
@@ -93,6 +95,36 @@ fn tidy_word(b: &mut [u32], from: u32, end: u32)
     }
 }
 
+// Whether the eight occupancy words from w on are all 0. One `|` a word and no test: of that LLVM makes vectors.
+fn eight_free(b: &[u32], w: u32) -> bool
+    requires { ⌜ Shaped (now b) × (w + 8 ≤ room (now b) / 32) ⌝ }
+    ensures { λ r. ⌜ (r ≡ true → FreeWords (now (b .entry)) w 8) ⌝ }
+{
+    let k = (17 + w) as usize;
+    let mut s = 0;
+    let mut j = 0;
+    while j < 8 {
+        s |= b[k + j];
+        j += 1;
+    }
+    s == 0
+}
+
+// Goes on from a word past some that are 0, eight at a time: where little is occupied a sweep passes over many.
+fn free_words(b: &[u32], from: u32, m: u32) -> u32
+    requires { ⌜ Shaped (now b) × (m ≡ room (now b) / 32) × (from ≤ m) ⌝ }
+    ensures { λ r. ⌜ (from ≤ r) × (r ≤ m) × FreeWords (now (b .entry)) from (r - from) ⌝ }
+{
+    let mut w = from;
+    while w + 8 <= m {
+        if !eight_free(b, w) {
+            return w;
+        }
+        w += 8;
+    }
+    w
+}
+
 // Every node that nothing names is emptied. The call made none below `from`, so none of those is read; nor are 32 free nodes, whose occupancy word is 0.
 pub fn sweep(b: &mut [u32], from: u32)
     requires { ⌜ Running (now b) × (1 ≤ from) × HeldBelow (heap (now b)) from ⌝ }
@@ -107,8 +139,11 @@ pub fn sweep(b: &mut [u32], from: u32)
         w += 1;
         if word != 0 {
             tidy_word(b, i, next);
+            i = next;
+        } else {
+            w = free_words(b, w, m);
+            i = 32 * w + 1;
         }
-        i = next;
     }
 }
 

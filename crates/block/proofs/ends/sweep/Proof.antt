@@ -6,6 +6,7 @@ use Prim.Native.Nat.{_+_, _-_, _*_, _/_, _≤_}
 use Rattle.model.specs.Block.{room}
 use Rattle.model.specs.Moves.{Tidied}
 use Rattle.model.proofs.Ends.{tidied-start, tidied-over, tidied-then, swept}
+use Rattle.block.proofs.Runs.{tidied-words}
 use Rattle.block.proofs.ends.sweep.Statement.{statement}
 use Rattle.block.proofs.ends.sweep.Tie as tie
 
@@ -56,13 +57,24 @@ loop-again c =
     let I = c .before .before .before .before .before .before .before .loop .inv in
     (I .0, omega arith, omega arith, tidied-then (I .3) (c .before .before .tidy-word .ensures))
 
+free-words-requires : tie.Need-free-words-requires Inv-loop μ-loop
+free-words-requires c κs = search needs
+
+mul-i : tie.Need-mul-i Inv-loop μ-loop
+mul-i c = search needs
+
+add-i : tie.Need-add-i Inv-loop μ-loop
+add-i c = search needs
+
 loop-less-2 : tie.Need-loop-less-2 Inv-loop μ-loop
 loop-less-2 c = search needs
 
 loop-again-2 : tie.Need-loop-again-2 Inv-loop μ-loop
 loop-again-2 c =
-    let at = c .before .before .before .loop in
-    (at .inv .0, omega arith, omega arith, tidied-over (at .w) (at .inv .3) (omega (arith, at .inv .1, at .inv .2)) (c .if1 .left))
+    let at = c .before .before .before .before .before .loop in
+    let E = c .free-words .ensures in
+    let here = tidied-over (at .w) (at .inv .3) (omega (arith, at .inv .1, at .inv .2)) (c .before .before .if1 .left) in
+    (at .inv .0, omega arith, omega arith, tidied-words _ (at .w + 1) (32 * at .w + 33) (32 * c .free-words .result + 1) (omega arith) (omega (arith, E .0)) (E .2) here)
 
 same-length : tie.Need-same-length Inv-loop μ-loop
 same-length c =
@@ -93,6 +105,9 @@ sweep-spec =
     tidy-word-requires
     loop-less
     loop-again
+    free-words-requires
+    mul-i
+    add-i
     loop-less-2
     loop-again-2
     same-length
