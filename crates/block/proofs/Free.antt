@@ -8,11 +8,10 @@ use native.Mathlib.Nat.{add-zero, suc-add, zero-add}
 use native.Mathlib.Omega.{arith}
 use native.Mathlib.Decide.{ℕ-discrete}
 use lib.ListN.{drop}
-use lib.Bits.{bitAnd, and-le-l, and-le-r}
 use lib.Dec.{eqb}
 use lib.Count.{trailing-of-zero}
 use borrow.Author.Tests.{lt-ltb}
-use Rattle.model.specs.Block.{word, room, bit, occupiedAt, Words}
+use Rattle.model.specs.Block.{word, room, bit, occupiedAt}
 use Rattle.model.specs.Supply.{firstOf}
 use Rattle.model.specs.Heap.{freeFrom}
 use Rattle.block.specs.Words.{FullWords, firstZero}
@@ -77,43 +76,6 @@ over-words b (suc n) w whole le f =
     over-word b w (omega (arith, here)) whole (omega arith) 32 (sym (full-word b w here)) (omega arith)
     ∙ over-words b n (w + 1) whole (omega arith) (λ i lt. let q : 17 + (w + 1 + i) ≡ 17 + (w + suc i) = omega arith in ap (word b) q ∙ f (suc i) (omega arith))
     ∙ ap (λ x. freeFrom (occupiedAt b) (suc (32 * x)) (room b - 32 * x)) next
-
--- two numbers whose common bits are as many as these
-both : (x y m : ℕ) → m ≤ bitAnd x y → (m ≤ x) × (m ≤ y)
-both x y m p = (omega (arith, and-le-l x y), omega (arith, and-le-r x y))
-
-four : (x y z u m : ℕ) → m ≤ bitAnd (bitAnd (bitAnd x y) z) u → (m ≤ x) × (m ≤ y) × (m ≤ z) × (m ≤ u)
-four x y z u m p =
-    let h = both (bitAnd (bitAnd x y) z) u m p in
-    let i = both (bitAnd x y) z m (h .0) in
-    let j = both x y m (i .0) in
-    (j .0, j .1, i .1, h .1)
-
--- eight words that have all bits in common
-pub eight : (b : List ℕ) (w : ℕ) → Words b
-    → bitAnd (bitAnd (bitAnd (bitAnd (word b (17 + w)) (word b (17 + w + 1))) (word b (17 + w + 2))) (word b (17 + w + 3))) (bitAnd (bitAnd (bitAnd (word b (17 + w + 4)) (word b (17 + w + 5))) (word b (17 + w + 6))) (word b (17 + w + 7))) ≡ 4294967295
-    → FullWords b w 8
-eight b w fits e i lt =
-    let h = both (bitAnd (bitAnd (bitAnd (word b (17 + w)) (word b (17 + w + 1))) (word b (17 + w + 2))) (word b (17 + w + 3))) (bitAnd (bitAnd (bitAnd (word b (17 + w + 4)) (word b (17 + w + 5))) (word b (17 + w + 6))) (word b (17 + w + 7))) 4294967295 (omega (arith, e)) in
-    let s = four (word b (17 + w)) (word b (17 + w + 1)) (word b (17 + w + 2)) (word b (17 + w + 3)) 4294967295 (h .0) in
-    let t = four (word b (17 + w + 4)) (word b (17 + w + 5)) (word b (17 + w + 6)) (word b (17 + w + 7)) 4294967295 (h .1) in
-    go i lt (s .0) (s .1) (s .2) (s .3) (t .0) (t .1) (t .2) (t .3)
-  where
-    -- a word that is not below all ones
-    ones : (j : ℕ) → 4294967295 ≤ word b (17 + w + j) → word b (17 + (w + j)) ≡ 4294967295
-    ones j p = let at : 17 + (w + j) ≡ 17 + w + j = omega arith in ap (word b) at ∙ omega (arith, fits (17 + w + j))
-
-    go : (i : ℕ) → i < 8 → 4294967295 ≤ word b (17 + w) → 4294967295 ≤ word b (17 + w + 1) → 4294967295 ≤ word b (17 + w + 2) → 4294967295 ≤ word b (17 + w + 3)
-        → 4294967295 ≤ word b (17 + w + 4) → 4294967295 ≤ word b (17 + w + 5) → 4294967295 ≤ word b (17 + w + 6) → 4294967295 ≤ word b (17 + w + 7) → word b (17 + (w + i)) ≡ 4294967295
-    go zero p h0 h1 h2 h3 h4 h5 h6 h7 = let at : 17 + (w + 0) ≡ 17 + w = omega arith in ap (word b) at ∙ omega (arith, fits (17 + w))
-    go (suc zero) p h0 h1 h2 h3 h4 h5 h6 h7 = ones 1 h1
-    go (suc (suc zero)) p h0 h1 h2 h3 h4 h5 h6 h7 = ones 2 h2
-    go (suc (suc (suc zero))) p h0 h1 h2 h3 h4 h5 h6 h7 = ones 3 h3
-    go (suc (suc (suc (suc zero)))) p h0 h1 h2 h3 h4 h5 h6 h7 = ones 4 h4
-    go (suc (suc (suc (suc (suc zero))))) p h0 h1 h2 h3 h4 h5 h6 h7 = ones 5 h5
-    go (suc (suc (suc (suc (suc (suc zero)))))) p h0 h1 h2 h3 h4 h5 h6 h7 = ones 6 h6
-    go (suc (suc (suc (suc (suc (suc (suc zero))))))) p h0 h1 h2 h3 h4 h5 h6 h7 = ones 7 h7
-    go (suc (suc (suc (suc (suc (suc (suc (suc i)))))))) p h0 h1 h2 h3 h4 h5 h6 h7 = absurd (omega arith)
 
 -- what was found
 pub found-cons : (fs : List ℕ) (n : ℕ) → n ≡ firstOf fs → n ≢ 0 → fs ≡ n ∷ drop 1 fs

@@ -137,15 +137,19 @@ fn first_zero(b: &[u32], w: u32) -> u32
     u32::trailing_zeros(!b[(17 + w) as usize])
 }
 
-// Whether the eight occupancy words from w on are all ones: only then do they have all bits in common.
+// Whether the eight occupancy words from w on are all ones. One `&` a word and no test: of that LLVM makes vectors.
 fn eight_full(b: &[u32], w: u32) -> bool
     requires { ⌜ Shaped (now b) × (w + 8 ≤ room (now b) / 32) ⌝ }
     ensures { λ r. ⌜ (r ≡ true → FullWords (now (b .entry)) w 8) ⌝ }
 {
     let k = (17 + w) as usize;
-    let s = b[k] & b[k + 1] & b[k + 2] & b[k + 3];
-    let t = b[k + 4] & b[k + 5] & b[k + 6] & b[k + 7];
-    s & t == 4294967295
+    let mut s = 4294967295;
+    let mut j = 0;
+    while j < 8 {
+        s &= b[k + j];
+        j += 1;
+    }
+    s == 4294967295
 }
 
 // Goes on from a word past some that are all ones, eight at a time: where much is occupied a search passes over many.

@@ -1,118 +1,59 @@
--- No word is above all ones, so eight have all those bits in common only where each is all ones.
+-- No word is above all ones, so words have all those bits in common only where each is all ones.
 use borrow.Author.Needs.{needs}
 use borrow.Author.Tests.{eqb-true}
 use native.Mathlib.Omega.{arith}
-use Rattle.block.proofs.Free.{eight}
+use mathlib.Core.Path.{_≡_, subst}
+use Prim.Native.Nat.{_+_, _-_, _≤_}
+use lib.Bits.{and-le-l, and-le-r}
+use Rattle.model.specs.Block.{word}
+use Rattle.block.specs.Words.{FullWords}
+use Rattle.block.proofs.Runs.{one-more}
 use Rattle.block.proofs.eight_full.Statement.{statement}
 use Rattle.block.proofs.eight_full.Tie as tie
 
-add-k : tie.Need-add-k
+abbrev Inv-loop : tie.InvT-loop
+Inv-loop b w k s₀ j₀ s j = (j ≤ 8) × (4294967295 ≤ s → FullWords b w j)
+
+abbrev μ-loop : tie.MeasureT-loop
+μ-loop b w k s₀ j₀ s j = 8 - j
+
+add-k : tie.Need-add-k Inv-loop μ-loop
 add-k c = search needs
 
-cast-k : tie.Need-cast-k
+cast-k : tie.Need-cast-k Inv-loop μ-loop
 cast-k c = search needs
 
-mul-s : tie.Need-mul-s
-mul-s c = search needs
+loop-holds : tie.Need-loop-holds Inv-loop μ-loop
+loop-holds c = (omega arith, λ e i lt. absurd (omega arith))
 
-shared-slice-read-s : tie.Need-shared-slice-read-s
-shared-slice-read-s c = search needs
-
-add-s : tie.Need-add-s
+add-s : tie.Need-add-s Inv-loop μ-loop
 add-s c = search needs
 
-mul-s-2 : tie.Need-mul-s-2
-mul-s-2 c = search needs
+mul-s : tie.Need-mul-s Inv-loop μ-loop
+mul-s c = search needs
 
-shared-slice-read-s-2 : tie.Need-shared-slice-read-s-2
-shared-slice-read-s-2 c = search needs
+shared-slice-read-s : tie.Need-shared-slice-read-s Inv-loop μ-loop
+shared-slice-read-s c = search needs
 
-add-s-2 : tie.Need-add-s-2
-add-s-2 c = search needs
+add-j : tie.Need-add-j Inv-loop μ-loop
+add-j c = search needs
 
-mul-s-3 : tie.Need-mul-s-3
-mul-s-3 c = search needs
+loop-less : tie.Need-loop-less Inv-loop μ-loop
+loop-less c = search needs
 
-shared-slice-read-s-3 : tie.Need-shared-slice-read-s-3
-shared-slice-read-s-3 c = search needs
+loop-again : tie.Need-loop-again Inv-loop μ-loop
+loop-again c =
+    let a = c .before .before .before .args in
+    let at = c .before .before .loop in
+    let x = word (a .b .now) (17 + a .w + at .j) in
+    let fits = c .shared-slice-known .given (17 + a .w + at .j) in
+    (omega arith, λ p. one-more (a .b .now) (a .w) (at .j) 4294967295 (at .inv .1 (omega (arith, p, and-le-l (at .s) x))) (omega (arith, p, fits, and-le-r (at .s) x)))
 
-add-s-3 : tie.Need-add-s-3
-add-s-3 c = search needs
-
-mul-s-4 : tie.Need-mul-s-4
-mul-s-4 c = search needs
-
-shared-slice-read-s-4 : tie.Need-shared-slice-read-s-4
-shared-slice-read-s-4 c = search needs
-
-add-t : tie.Need-add-t
-add-t c = search needs
-
-mul-t : tie.Need-mul-t
-mul-t c = search needs
-
-shared-slice-read-t : tie.Need-shared-slice-read-t
-shared-slice-read-t c = search needs
-
-add-t-2 : tie.Need-add-t-2
-add-t-2 c = search needs
-
-mul-t-2 : tie.Need-mul-t-2
-mul-t-2 c = search needs
-
-shared-slice-read-t-2 : tie.Need-shared-slice-read-t-2
-shared-slice-read-t-2 c = search needs
-
-add-t-3 : tie.Need-add-t-3
-add-t-3 c = search needs
-
-mul-t-3 : tie.Need-mul-t-3
-mul-t-3 c = search needs
-
-shared-slice-read-t-3 : tie.Need-shared-slice-read-t-3
-shared-slice-read-t-3 c = search needs
-
-add-t-4 : tie.Need-add-t-4
-add-t-4 c = search needs
-
-mul-t-4 : tie.Need-mul-t-4
-mul-t-4 c = search needs
-
-shared-slice-read-t-4 : tie.Need-shared-slice-read-t-4
-shared-slice-read-t-4 c = search needs
-
-returns : tie.Need-returns
-returns c = λ e.
-    let s = c .before .before .before .before .before .before .before .before in
-    eight (s .args .b .now) (s .args .w) (λ i. omega (arith, c .shared-slice-known8 .given i)) (eqb-true _ 4294967295 e)
+returns : tie.Need-returns Inv-loop μ-loop
+returns c =
+    let at = c .before .loop in
+    let all : at .j ≡ 8 = omega arith in
+    λ e. subst (FullWords (c .before .before .args .b .now) (c .before .before .args .w)) all (at .inv .1 (omega (arith, eqb-true (at .s) 4294967295 e)))
 
 pub eight-full-spec : {M : Type 1} → statement M
-eight-full-spec =
-    tie.close
-    (tie.spec
-    add-k
-    cast-k
-    mul-s
-    shared-slice-read-s
-    add-s
-    mul-s-2
-    shared-slice-read-s-2
-    add-s-2
-    mul-s-3
-    shared-slice-read-s-3
-    add-s-3
-    mul-s-4
-    shared-slice-read-s-4
-    add-t
-    mul-t
-    shared-slice-read-t
-    add-t-2
-    mul-t-2
-    shared-slice-read-t-2
-    add-t-3
-    mul-t-3
-    shared-slice-read-t-3
-    add-t-4
-    mul-t-4
-    shared-slice-read-t-4
-    returns)
+eight-full-spec = tie.close (tie.spec Inv-loop μ-loop add-k cast-k loop-holds add-s mul-s shared-slice-read-s add-j loop-less loop-again returns)
