@@ -39,7 +39,7 @@ fn write_lines(
 }
 
 // Both walks are whole before the first line is written: a refusal leaves the output as it was.
-// What is written, cut every 35 bytes and parsed, is the delta's frames (theorem frames-read, proofs/Reading.antt).
+// What is written, cut every 35 bytes and parsed, is the delta's frames (`frames-read`, crate model, proofs/Reading).
 pub fn frames(b: &[u32], from: u32, to: u32, batch: u32, start: u32, out: &mut [u8]) -> Report
     ensures { λ r. ⌜ Lists (now (b .entry)) (now (out .entry)) (now (out .exit)) start (framed (now (b .entry)) from to batch) (reportOf r) ⌝ }
 {
