@@ -1,9 +1,9 @@
 // The kiosk's flat table: a lent slice of 129 words, the number of entries and then 64 pairs of key and value, keys ascending.
-pub mod answers;
-pub mod edits;
-pub mod lines;
-pub mod reads;
-pub mod slice;
+mod answers;
+mod edits;
+mod lines;
+mod reads;
+mod slice;
 
 pub use answers::Answer;
 pub use edits::fresh;
