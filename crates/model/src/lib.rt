@@ -1,4 +1,6 @@
 // Document 01 as definitions and theorems. Code needs one number of it: how many words a node has.
+#![tactic(auto)]
+
 pub const WIDTH: usize = 8;
 
 pub const WIDTH_U32: u32 = 8;

@@ -187,7 +187,7 @@ unfolding set_by
 single_sets {v = v} (inserted key value E z) = (insert-puts v v key value E z).0
 single_sets {v = v} (removed key value E z) = (remove_takes_out v v key E z).0
 
-singles_set : {b after : List ℕ} {v : ℕ} {es : List Record} → Singles v b after es → entries (version (heap after) v) ≡ set_all es (entries (version (heap b) v))
+singles_set : {v : ℕ} {b after : List ℕ} {es : List Record} → Singles v b after es → entries (version (heap after) v) ≡ set_all es (entries (version (heap b) v))
 unfolding set_all
 singles_set all = refl
 singles_set (then {es = es} S rest) = singles_set rest ∙ ap (set_all es) (single_sets S)

@@ -262,29 +262,29 @@ not_worth f n = go (ℕ_discrete f.kind 1) (ℕ_discrete f.value 0)
 
 module _ (s : Step) (v : ℕ) (line : List ℕ) where
   -- the answer has another number
-  no : {a : Heard} {k : ℕ} → s.answer ≡ a → a.number ≢ k → s.answer.number ≡ k → ⊥
-  no e ne z = ne (sym (ap (λ (a : Heard). a.number) e) ∙ z)
+  unlike : {a : Heard} {k : ℕ} → s.answer ≡ a → a.number ≢ k → s.answer.number ≡ k → ⊥
+  unlike e ne z = ne (sym (ap (λ (a : Heard). a.number) e) ∙ z)
 
   takes_crowded : (f : Frame) → SoundBlock s.block → SoundInbox s.inbox → v < 16 → parse line ≡ some f → Belongs s.inbox f → (h : Bool) → heard_at s.inbox f.index ≡ h
       → Takes s v f h → s.answer.number ≡ NO_ROOM → Crowded s v line
-  takes_crowded f B X lt e W true h u z = absurd (no u.0 (omega arith) z)
+  takes_crowded f B X lt e W true h u z = absurd (unlike u.0 (omega arith) z)
   takes_crowded f B X lt e W false h (fails p u) z =
       record { block = B; inbox = X; known = lt; frame = f; said = e; belongs = W; new = h; short = not_false (short (frame_rule f (version (heap s.block) v) (supply (heap s.block))).1) p }
-  takes_crowded f B X lt e W false h (passes p u) z = absurd (no u.0 (omega arith) z)
+  takes_crowded f B X lt e W false h (passes p u) z = absurd (unlike u.0 (omega arith) z)
 
   says_crowded : SoundBlock s.block → SoundInbox s.inbox → v < 16 → (r : Reading) → read line ≡ r → Says s v r → s.answer.number ≡ NO_ROOM → Crowded s v line
-  says_crowded B X lt (fault n p) e u z = absurd (no u.0 (λ five. omega (arith, five, (fault_range line n p e).0)) z)
-  says_crowded B X lt (good f) e (fails p u) z = absurd (no u.0 (omega arith) z)
-  says_crowded B X lt (good f) e (passes p (fails q u)) z = absurd (no u.0 (omega arith) z)
-  says_crowded B X lt (good f) e (passes p (passes q (fails w u))) z = absurd (no u.0 (omega arith) z)
+  says_crowded B X lt (fault n p) e u z = absurd (unlike u.0 (λ five. omega (arith, five, (fault_range line n p e).0)) z)
+  says_crowded B X lt (good f) e (fails p u) z = absurd (unlike u.0 (omega arith) z)
+  says_crowded B X lt (good f) e (passes p (fails q u)) z = absurd (unlike u.0 (omega arith) z)
+  says_crowded B X lt (good f) e (passes p (passes q (fails w u))) z = absurd (unlike u.0 (omega arith) z)
   says_crowded B X lt (good f) e (passes p (passes q (passes w T))) z = takes_crowded f B X lt ((good_parse line f).1 e) (record { batch = p; counts = q; worth = w }) (heard_at s.inbox f.index) refl T z
 
   crowded : Receive s v line → s.answer.number ≡ NO_ROOM → Crowded s v line
-  crowded (fails p u) z = absurd (no u.0 (omega arith) z)
-  crowded (passes a (fails p u)) z = absurd (no u.0 (omega arith) z)
-  crowded (passes a (passes c (fails p u))) z = absurd (no u.0 (omega arith) z)
-  crowded (passes a (passes c (passes d (fails p u)))) z = absurd (no u.0 (omega arith) z)
-  crowded (passes a (passes c (passes d (passes e (fails p u))))) z = absurd (no u.0 (omega arith) z)
+  crowded (fails p u) z = absurd (unlike u.0 (omega arith) z)
+  crowded (passes a (fails p u)) z = absurd (unlike u.0 (omega arith) z)
+  crowded (passes a (passes c (fails p u))) z = absurd (unlike u.0 (omega arith) z)
+  crowded (passes a (passes c (passes d (fails p u)))) z = absurd (unlike u.0 (omega arith) z)
+  crowded (passes a (passes c (passes d (passes e (fails p u))))) z = absurd (unlike u.0 (omega arith) z)
   crowded (passes a (passes c (passes d (passes e (passes g T))))) z = says_crowded d e g (read line) refl T z
 
   pub receive_no_room : Receive s v line → (s.answer.number ≡ NO_ROOM) ↔ Crowded s v line
@@ -300,23 +300,23 @@ module _ (s : Step) (v : ℕ) (line : List ℕ) where
           done z (new f e W h a (r, E) x) = let p : f ≡ C.frame = cc (sym e ∙ C.said) in true≢false (sym C.short ∙ ap (λ (g : Frame). short (frame_rule g (version (heap s.block) v) (supply (heap s.block))).1) (sym p) ∙ r)
 
   takes_other : (f : Frame) (h : Bool) → Takes s v f h → s.answer.number ≡ ZERO → ⊥
-  takes_other f true u z = no u.0 (omega arith) z
-  takes_other f false (fails p u) z = no u.0 (omega arith) z
-  takes_other f false (passes p u) z = no u.0 (omega arith) z
+  takes_other f true u z = unlike u.0 (omega arith) z
+  takes_other f false (fails p u) z = unlike u.0 (omega arith) z
+  takes_other f false (passes p u) z = unlike u.0 (omega arith) z
 
   says_zeroed : SoundBlock s.block → SoundInbox s.inbox → v < 16 → (r : Reading) → read line ≡ r → Says s v r → s.answer.number ≡ ZERO → Zeroed s v line
-  says_zeroed B X lt (fault n p) e u z = absurd (no u.0 (λ thirteen. omega (arith, thirteen, (fault_range line n p e).1)) z)
-  says_zeroed B X lt (good f) e (fails p u) z = absurd (no u.0 (omega arith) z)
-  says_zeroed B X lt (good f) e (passes p (fails q u)) z = absurd (no u.0 (omega arith) z)
+  says_zeroed B X lt (fault n p) e u z = absurd (unlike u.0 (λ thirteen. omega (arith, thirteen, (fault_range line n p e).1)) z)
+  says_zeroed B X lt (good f) e (fails p u) z = absurd (unlike u.0 (omega arith) z)
+  says_zeroed B X lt (good f) e (passes p (fails q u)) z = absurd (unlike u.0 (omega arith) z)
   says_zeroed B X lt (good f) e (passes p (passes q (fails w u))) z = record { block = B; inbox = X; known = lt; frame = f; said = (good_parse line f).1 e; batch = p; counts = q; zero = not_worth f w }
   says_zeroed B X lt (good f) e (passes p (passes q (passes w T))) z = absurd (takes_other f (heard_at s.inbox f.index) T z)
 
   zeroed : Receive s v line → s.answer.number ≡ ZERO → Zeroed s v line
-  zeroed (fails p u) z = absurd (no u.0 (omega arith) z)
-  zeroed (passes a (fails p u)) z = absurd (no u.0 (omega arith) z)
-  zeroed (passes a (passes c (fails p u))) z = absurd (no u.0 (omega arith) z)
-  zeroed (passes a (passes c (passes d (fails p u)))) z = absurd (no u.0 (omega arith) z)
-  zeroed (passes a (passes c (passes d (passes e (fails p u))))) z = absurd (no u.0 (omega arith) z)
+  zeroed (fails p u) z = absurd (unlike u.0 (omega arith) z)
+  zeroed (passes a (fails p u)) z = absurd (unlike u.0 (omega arith) z)
+  zeroed (passes a (passes c (fails p u))) z = absurd (unlike u.0 (omega arith) z)
+  zeroed (passes a (passes c (passes d (fails p u)))) z = absurd (unlike u.0 (omega arith) z)
+  zeroed (passes a (passes c (passes d (passes e (fails p u))))) z = absurd (unlike u.0 (omega arith) z)
   zeroed (passes a (passes c (passes d (passes e (passes g T))))) z = says_zeroed d e g (read line) refl T z
 
   pub receive_zero : Receive s v line → (s.answer.number ≡ ZERO) ↔ Zeroed s v line

@@ -20,7 +20,7 @@ use Rattle.model.specs.Numbers.{NO_ROOM}
 use Rattle.model.specs.Calls.{Check, fails, passes, Answer, finding, Versions, Edited}
 use Rattle.model.specs.Lists.{Report, part, over}
 use Rattle.model.specs.Lists as lists
-use Rattle.model.specs.Link.{Heard, Heeds, Judges}
+use Rattle.model.specs.Link.{Heard, Step, Heeds, Judges, Takes, refused_at, repeated}
 use Rattle.model.specs.Kiosk.{pairs, SoundKiosk, empty_kiosk, Holds, entry_words}
 use Rattle.model.specs.Kiosk as kiosk
 use Rattle.model.specs.Engines.{Call, lookup, insert, remove, list, receive, missing, Lack, Shown, Reply, number_of, flat, tree, Does, Replies, Runs, Roomy}
@@ -153,8 +153,11 @@ module _ (v e : ℕ) (lv : v < 16) (le : e < 16) (apart : e ≢ v) where
     receives : (line : List ℕ) {a c : Heard} {k' b' x' y' : List ℕ} → Does flat (receive line) k x k' x' a → Does (tree v e) (receive line) b x b' y' c
         → a.number ≢ NO_ROOM → c.number ≢ NO_ROOM → Alikes k' b' x' y' a c
     unfolding edited
-    receives line F T p q =
-        judged_alike line x (λ n i f t. stayed (f.0 ∙ sym t.0) f.1 t.1 f.2 t.2) (λ f t. stayed (f.0 ∙ sym t.0) f.1 t.1 f.2 t.2)
+    receives line {a} {c} {k'} {b'} {x'} {y'} F T p q =
+        let s : Step = record { block = k; inbox = x; block' = k'; inbox' = x'; answer = a } in
+        let u : Step = record { block = b; inbox = x; block' = b'; inbox' = y'; answer = c } in
+        judged_alike line x {R = refused_at s} {T = refused_at u} {A = repeated s} {B = repeated u} {M = kiosk.Takes s} {N = λ f. Takes u v f false}
+        (λ n i f t. stayed (f.0 ∙ sym t.0) f.1 t.1 f.2 t.2) (λ f t. stayed (f.0 ∙ sym t.0) f.1 t.1 f.2 t.2)
         (λ g d W h f t.
         let f = unless (λ r. p (ap (λ (a : Heard). a.number) r.0)) f in
         let t = unless (λ r. q (ap (λ (a : Heard). a.number) r.0)) t in
@@ -220,8 +223,15 @@ kiosk_once (list start out) k x {r = r} {q = q} F T = (check_once F.0 T.0 one (�
     one d e = shown_ext r q (d.0 ∙ sym e.0) (d.1 ∙ sym e.1)
 kiosk_once (receive line) k x {k1 = k1} {k2 = k2} {x1 = x1} {x2 = x2} {r = r} {q = q} F T =
     check_once F T kept (λ f t. check_once f t kept (λ f t. check_once f t kept (λ f t. check_once f t kept
-    (judged_alike line x (λ n i. kept) kept (λ g d W h f t. check_once f t kept done) (read line) refl))))
+    (judged_alike line x {R = refused_at one} {T = refused_at two} {A = repeated one} {B = repeated two} {M = kiosk.Takes one} {N = kiosk.Takes two}
+    (λ n i. kept) kept (λ g d W h f t. check_once f t kept done) (read line) refl))))
   where
+    one : Step
+    one = record { block = k; inbox = x; block' = k1; inbox' = x1; answer = r }
+
+    two : Step
+    two = record { block = k; inbox = x; block' = k2; inbox' = x2; answer = q }
+
     kept : {a : Heard} {y z : List ℕ} → (r ≡ a) × (k1 ≡ y) × (x1 ≡ z) → (q ≡ a) × (k2 ≡ y) × (x2 ≡ z) → (r ≡ q) × (k1 ≡ k2) × (x1 ≡ x2)
     kept f t = (f.0 ∙ sym t.0, f.1 ∙ sym t.1, f.2 ∙ sym t.2)
 

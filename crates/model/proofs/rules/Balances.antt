@@ -26,7 +26,7 @@ join-balanced k v (node i h w ll lr) leaf s bl br =
     let t = join k v lr leaf (given i s) in
     balanced-balanced h w ll t.0 t.1 bl.1 (join-balanced k v lr leaf (given i s) bl.2 br) (omega (arith, bl.0, join-size k v lr leaf (given i s)))
 join-balanced k v (node i h w ll lr) (node j g u rl rr) s bl br =
-    right (larger R L) refl (join-balanced k v L rl (given j s) bl br.1) (join-balanced k v lr R (given i s) bl.2 br)
+    right (larger R L) refl (join-balanced k v (node i h w ll lr) rl (given j s) bl br.1) (join-balanced k v lr (node j g u rl rr) (given i s) bl.2 br)
   where
     L : Tree
     L = node i h w ll lr

@@ -52,9 +52,9 @@ join_keeps k v leaf (node j h w rl rr) s = balanced_keeps h w (join k v leaf rl 
 join_keeps k v (node i h w ll lr) leaf s = balanced_keeps h w ll (join k v lr leaf (given i s)).0 (join k v lr leaf (given i s)).1 ∙ rw (join_keeps k v lr leaf (given i s)) (simp append_assoc)
 join_keeps k v (node i h w ll lr) (node j g u rl rr) s =
     either all s (larger R L) _ _
-    (balanced_keeps g u (join k v L rl (given j s)).0 rr (join k v L rl (given j s)).1 ∙ rw (join_keeps k v L rl (given j s)) (simp append_assoc))
+    (balanced_keeps g u (join k v (node i h w ll lr) rl (given j s)).0 rr (join k v (node i h w ll lr) rl (given j s)).1 ∙ rw (join_keeps k v (node i h w ll lr) rl (given j s)) (simp append_assoc))
     (either all s (larger L R) _ _
-    (balanced_keeps h w ll (join k v lr R (given i s)).0 (join k v lr R (given i s)).1 ∙ rw (join_keeps k v lr R (given i s)) (simp append_assoc))
+    (balanced_keeps h w ll (join k v lr (node j g u rl rr) (given i s)).0 (join k v lr (node j g u rl rr) (given i s)).1 ∙ rw (join_keeps k v lr (node j g u rl rr) (given i s)) (simp append_assoc))
     (balanced_keeps k v L R s))
   where
     L : Tree

@@ -53,10 +53,10 @@ sized {b} {n} R p q ne = go (occupied_at b n) refl
     go false e = absurd (ne (R.linked.blank n p q e).size)
 
 -- a call makes no node below `from`: those that stand there stood at entry, and have a reference still
-pub held-from : {b e : List ℕ} {ps : List ℕ} {own : ℕ → ℕ} {from : ℕ} → FullBelow (heap b) from → Holds (heap b) (heap e) ps own → Running e
+pub held-from : (b : List ℕ) {e : List ℕ} {ps : List ℕ} {own : ℕ → ℕ} {from : ℕ} → FullBelow (heap b) from → Holds (heap b) (heap e) ps own → Running e
     → HeldBelow (heap e) from
-held-from {b} {e} F H R zero lt o = absurd (omega (arith, R.linked.within 0 o))
-held-from {b} {e} F H R (suc m) lt o = omega (arith, stood_refs (suc m) H.entry H.over (F (suc m) (omega arith) lt), R.counts (suc m) o)
+held-from b {e} F H R zero lt o = absurd (omega (arith, R.linked.within 0 o))
+held-from b {e} F H R (suc m) lt o = omega (arith, stood_refs (suc m) H.entry H.over (F (suc m) (omega arith) lt), R.counts (suc m) o)
 
 gave_none : {h : Heap} → Linked h → Gave h h
 gave_none L = record { linked = L; room = refl; root = λ v lt. refl; fewer = λ m o. o; trees = λ m o. refl; positive = λ m o p. p }
@@ -185,7 +185,7 @@ module _ {h g k : Heap} {d n old : ℕ} (E : Rerooted h g k d n old) where
   pub finished_others : {f : Heap} → Gave k f → (v : ℕ) → v < 16 → v ≢ d → version f v ≡ version h v
   finished_others G v lt ne = gave_version G v lt ∙ ap (tree k) (E.rooted.others v lt ne ∙ E.raised.root v lt) ∙ rooted_trees (h.root v) (E.linked.roots v lt)
 
-module _ {b c e f : List ℕ} {d n old : ℕ} (E : Rerooted (heap b) (heap c) (heap e) d n old) (S : Shaped f) (P : Paid (heap e) (heap f) old) where
+module _ (b c e : List ℕ) {f : List ℕ} {d n old : ℕ} (E : Rerooted (heap b) (heap c) (heap e) d n old) (S : Shaped f) (P : Paid (heap e) (heap f) old) where
   pub paid_running : Running f
   paid_running = record { shaped = S; linked = P.gave.linked; counts = paid_counted E P }
 
