@@ -1,4 +1,6 @@
 // Checks of a block that is lent, of any words at all, and the fresh block.
+#![tactic(auto)]
+
 ghost use Rattle.model.specs.Block.{Shaped, SoundBlock};
 ghost use Rattle.model.specs.Tells.{Tells};
 ghost use Rattle.model.specs.Calls.{Fitting, Checked, Fresh, refusal};

@@ -14,6 +14,7 @@ use area::zeros::{zeros, zeros_half};
 use model::WIDTH;
 
 // Node i + 1, whose occupancy bit is m: noted, or zeros.
+#[tactic(auto, using(crate::proofs::Marks::mark_live))]
 fn node_ok(
     a: &[u32],
     n: usize,
