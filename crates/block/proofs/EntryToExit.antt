@@ -58,7 +58,7 @@ module _ {b : List ℕ} (B : SoundBlock b) (ps : List ℕ) (N : AllNamed (heap b
 
   -- the nodes below those that the call made have references
   pub held : {e : List ℕ} {q : Made} {rule : Make Tree} {from : ℕ} → FullBelow (heap b) from → Outcome b e ps q rule → HeldBelow (heap e) from
-  held F O = held-from F (turned O).holds O.came.running
+  held F O = held-from b F (turned O).holds O.came.running
 
   -- success is never short of room
   pub enough : {e : List ℕ} {n : ℕ} {rule : Make Tree} → Outcome b e ps (At n) rule → short (rule (supply (heap b))).1 ≡ false

@@ -31,5 +31,5 @@ low_words {b} n B L =
     ∙ ap (free_from (occupied_at b) 1) all
 
 -- node n was emptied: what was known of the nodes below it is known still
-pub low_opened : {b e : List ℕ} {n low x : ℕ} → Opened (heap b) (heap e) n → Low b low → 1 ≤ x → x ≤ low → x ≤ n → Low e x
-low_opened O L p q r = (p, λ m i j. O.except.occupied m (omega arith) ∙ L.1 m i (omega arith))
+pub low_opened : (b e : List ℕ) {n low x : ℕ} → Opened (heap b) (heap e) n → Low b low → 1 ≤ x → x ≤ low → x ≤ n → Low e x
+low_opened b e O L p q r = (p, λ m i j. O.except.occupied m (omega arith) ∙ L.1 m i (omega arith))

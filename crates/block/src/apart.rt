@@ -29,7 +29,8 @@ pub fn take_apart(b: &mut [u32], low: &mut u32, n: u32) -> Node
         clear(b, n);
         unlink(b, node.left);
         unlink(b, node.right);
-        if n < *low {
+        let below = n < *low;
+        if below {
             *low = n;
         }
     }

@@ -1,4 +1,6 @@
 // Nodes of the block: reading and making them. The end of a call is in ends.
+#![tactic(auto)]
+
 pub mod apart;
 pub mod ends;
 mod words;
@@ -15,7 +17,7 @@ ghost use Rattle.block.specs.Outcome.{Outcome, is_absent, node_of};
 use words::{node_at, set_word, take_bit, write};
 
 // A node without its size and count.
-#[derive(Drop)]
+#[derive(Clone, Copy)]
 pub struct Node {
     pub key: u32,
     pub value: u32,
@@ -24,7 +26,7 @@ pub struct Node {
 }
 
 // The value under a key, if there is one.
-#[derive(Drop)]
+#[derive(Clone, Copy)]
 pub enum Found {
     Value(u32),
     Absent,
@@ -41,7 +43,7 @@ pub fn is_absent(f: Found) -> bool
 }
 
 // The node that was made, if there was room.
-#[derive(Drop)]
+#[derive(Clone, Copy)]
 pub enum Made {
     At(u32),
     Full,
