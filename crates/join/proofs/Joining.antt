@@ -1,11 +1,11 @@
 -- Join is right because each level follows the rule by the same sizes: it joins below, then makes the node above, and stops where that finds no room.
-use mathlib.Core.Path.{◌≡◌, refl, ap}
+use mathlib.Core.Path.{◌≡◌, refl}
 use Prim.Native.Nat.{ℕ, ◌+◌, ◌*◌, ◌≤◌, ◌<◌}
 use mathlib.Core.List.{List, [], ◌∷◌}
 use borrow.Author.Tests.{lt-ltb, le-ltb}
 use native.Mathlib.Omega.{arith}
 use Rattle.model.specs.Tree.{Tree, leaf, node, size}
-use Rattle.model.specs.Supply.{Make, apart, ◌>>=◌, ◌>>◌}
+use Rattle.model.specs.Supply.{apart, ◌>>=◌, ◌>>◌}
 use Rattle.model.specs.Rules.{balanced, join}
 use Rattle.model.specs.Heap.{Named, size_at, tree}
 use Rattle.model.specs.Block.{heap}
@@ -15,7 +15,7 @@ use Rattle.model.proofs.running.Growing.{holding_less}
 use Rattle.model.proofs.rules.Sizes.{join-size}
 use Rattle.model.proofs.rules.Steady.{balanced_onward}
 use Rattle.block.specs.declared.Made.{Made}
-use Rattle.block.specs.declared.Made.TheVariants.{At, Full}
+use Rattle.block.specs.declared.Made.TheVariants.{At}
 use Rattle.block.specs.declared.Node.{Node}
 use Rattle.block.specs.Outcome.{Outcome}
 use Rattle.block.proofs.Outcomes.{stock, out_size}

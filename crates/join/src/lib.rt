@@ -1,4 +1,6 @@
 // Two trees joined around an entry or without one, and a tree split at a key.
+#![tactic(auto)]
+
 ghost use Rattle.std.specs.Prelude.{◌≡◌, ℕ, ◌+◌, ◌<◌, [], ◌∷◌};
 ghost use Rattle.model.specs.Heap.{Named, size_at, tree};
 ghost use Rattle.model.specs.Block.{heap};
@@ -37,7 +39,7 @@ pub fn join(b: &mut [u32], low: &mut u32, key: u32, value: u32, left: u32, right
 }
 
 // What is left of a key, its value, and what is right of it.
-#[derive(Drop)]
+#[derive(Clone, Copy)]
 pub struct Pieces {
     pub left: u32,
     pub found: Found,
@@ -45,13 +47,14 @@ pub struct Pieces {
 }
 
 // The pieces, if there was room.
-#[derive(Drop)]
+#[derive(Clone, Copy)]
 pub enum Parted {
-    Into(Pieces),
     Full,
+    Into(Pieces),
 }
 
-// The pieces as an answer.
+// The pieces as an answer. A call of its own, as they are copied from constant data where it is not.
+#[inline(never)]
 fn into_pieces(left: u32, found: Found, right: u32) -> Parted
     ensures { result ≡ into left found right }
 {

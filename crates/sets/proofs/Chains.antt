@@ -16,7 +16,7 @@ use Rattle.block.specs.declared.Made.TheVariants.{At, Full}
 use Rattle.block.specs.declared.Node.{Node}
 use Rattle.block.specs.Outcome.{Outcome, answer, tree_at, node_of}
 use Rattle.block.proofs.Outcomes.{stock, out_bind, out_stop, out_size}
-use Rattle.block.proofs.Levels.{Asks, Level, read-tree, read_left, read_right, read-size, level_holds, level_still, level_out}
+use Rattle.block.proofs.Levels.{Asks, Level, read-tree, read-size, level_holds, level_still, level_out}
 use Rattle.join.specs.declared.Pieces.{Pieces}
 use Rattle.join.specs.declared.Parted.TheVariants as parted
 use Rattle.join.specs.Division.{parts_of, Division}

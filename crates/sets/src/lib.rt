@@ -1,4 +1,6 @@
 // The union and the difference of two trees.
+#![tactic(auto)]
+
 ghost use Rattle.std.specs.Prelude.{◌≡◌, ◌+◌, ◌<◌, [], ◌∷◌, nat_le};
 ghost use Rattle.model.specs.Heap.{Named, Linked, size_at, tree};
 ghost use Rattle.model.specs.Block.{heap, Shaped};

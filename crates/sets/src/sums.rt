@@ -12,7 +12,7 @@ use block::{Found, read, sum_at};
 use tree::find;
 
 // Where the keys below a key are, and those above it.
-#[derive(Drop)]
+#[derive(Clone, Copy)]
 struct Sides {
     low: u32,
     high: u32,

@@ -1,6 +1,6 @@
 -- The balanced make is right because the code asks the rule's tests in the rule's order, and a node taken apart is the tree's root.
 use mathlib.Core.Path.{◌≡◌, sym, subst, ◌∙◌}
-use Prim.Native.Nat.{ℕ, suc, ◌+◌, ◌*◌, ◌≤◌, ◌<◌}
+use Prim.Native.Nat.{ℕ, ◌+◌, ◌*◌, ◌≤◌, ◌<◌}
 use mathlib.Core.List.{List, [], ◌∷◌}
 use borrow.Author.Tests.{lt-ltb, le-ltb}
 use native.Mathlib.Omega.{arith}
@@ -11,7 +11,7 @@ use Rattle.model.specs.Heap.{Named, size_at, tree, Occupied}
 use Rattle.model.specs.Block.{heap}
 use Rattle.model.specs.Moves.{held, Among, Holding, Still}
 use Rattle.model.proofs.block.Loads.{tree-size}
-use Rattle.model.proofs.running.Growing.{came_still, came_holding, holding_less, holding_named}
+use Rattle.model.proofs.running.Growing.{came_still, came_holding, holding_less}
 use Rattle.model.proofs.rules.Steady.{make_onward}
 use Rattle.block.specs.declared.Made.{Made}
 use Rattle.block.specs.declared.Made.TheVariants.{At, Full}
@@ -193,7 +193,7 @@ module _ {b c : List ℕ} {k v m y : ℕ} {n : Node} {x z : ℕ} (T : Heavy b c 
   left_once p = record {
     holds = J;
     onward = λ t. make_onward n.key n.value t right;
-    by = λ e q O. rw (← S.tree, read-tree T.level, rotate_left) (rw (lt-ltb (weight left) (2 * weight right) (omega (arith, p, sl, sr))) (level_out T.level (y ∷ []) (λ x i. omega arith) (λ x i. omega arith) O));
+    by = λ e q O. rw (← S.tree) (rw (read-tree T.level, rotate_left) (rw (lt-ltb (weight left) (2 * weight right) (omega (arith, p, sl, sr))) (level_out T.level (y ∷ []) (λ x i. omega arith) (λ x i. omega arith) O)));
   }
 
   pub right_once : z + 1 < 2 * (x + 1)
@@ -220,7 +220,7 @@ module _ {b c : List ℕ} {k v m y : ℕ} {n : Node} {x z : ℕ} (T : Heavy b c 
       → Outcome c e (y ∷ n.left ∷ n.right ∷ []) q (twice k v other left n.key n.value right)
       → Outcome b e (y ∷ m ∷ []) q (rotate_left k v (tree (heap b) y) (tree (heap b) m))
   unfolding rotate_left held
-  left_twice {e} {q} p O = rw (← S.tree, read-tree T.level, rotate_left) (rw (le-ltb (weight left) (2 * weight right) (omega (arith, p, sl, sr))) (level_out T.level (y ∷ []) (λ x i. omega arith) (λ x i. omega arith) O))
+  left_twice {e} {q} p O = rw (← S.tree) (rw (read-tree T.level, rotate_left) (rw (le-ltb (weight left) (2 * weight right) (omega (arith, p, sl, sr))) (level_out T.level (y ∷ []) (λ x i. omega arith) (λ x i. omega arith) O)))
 
   pub right_twice : {e : List ℕ} {q : Made} → 2 * (x + 1) ≤ z + 1
       → Outcome c e (n.left ∷ n.right ∷ y ∷ []) q (twice n.key n.value left right k v other)

@@ -5,9 +5,8 @@ use Prim.Native.Nat.{ℕ, suc, ◌+◌, ◌*◌, ◌≤◌, ◌<◌}
 use mathlib.Core.Bool.{Bool}
 use mathlib.Core.List.{List}
 use native.Mathlib.Omega.{arith}
-use Rattle.model.specs.Tree.{Ordered}
-use Rattle.model.specs.Heap.{Heap, Occupied, Named, size_at, sum_at, tree, Linked}
-use Rattle.model.specs.Block.{heap, room}
+use Rattle.model.specs.Heap.{Occupied, size_at, sum_at, Linked}
+use Rattle.model.specs.Block.{heap}
 use Rattle.model.specs.Sums.{from, upto, within, sum_below}
 use Rattle.model.proofs.block.Loads.{size_at_occupied}
 use Rattle.model.proofs.block.Lookups.{link_occupied}

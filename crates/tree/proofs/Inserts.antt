@@ -1,12 +1,12 @@
 -- Insert is right because each node of the path is the rule's, with the sides that the code has read or made.
 use mathlib.Core.Path.{◌≡◌}
 use mathlib.Core.Logic.{◌≢◌}
-use Prim.Native.Nat.{ℕ, zero, suc, ◌≤◌, ◌<◌}
+use Prim.Native.Nat.{ℕ, ◌≤◌, ◌<◌}
 use mathlib.Core.Bool.{Bool, true, false}
 use mathlib.Core.List.{List, [], ◌∷◌}
 use native.Mathlib.Omega.{arith}
 use Rattle.model.specs.Tree.{Tree}
-use Rattle.model.specs.Supply.{Make, make, ◌>>=◌}
+use Rattle.model.specs.Supply.{Make, make}
 use Rattle.model.specs.Rules.{balanced, insert_by}
 use Rattle.model.specs.Heap.{load, tree}
 use Rattle.model.specs.Block.{heap}

@@ -1,14 +1,14 @@
 -- Remove is right because each node of the path is the rule's, and the minimum that takes a node's place is the right side's.
 use mathlib.Core.Path.{◌≡◌, ap, sym, subst}
 use mathlib.Core.Logic.{◌≢◌}
-use Prim.Native.Nat.{ℕ, suc, ◌≤◌, ◌<◌, ◌+◌}
+use Prim.Native.Nat.{ℕ, suc, ◌≤◌, ◌<◌}
 use mathlib.Core.List.{List, [], ◌∷◌}
-use mathlib.Core.Option.{Option, none, some}
+use mathlib.Core.Option.{Option, some}
 use native.Mathlib.Omega.{arith}
 use Rattle.model.specs.Tree.{Tree, size}
 use Rattle.model.specs.Supply.{Make, done, apart, given, ◌>>=◌, ◌>>◌}
 use Rattle.model.specs.Rules.{balanced, Least, remove_min, without_key, remove_present}
-use Rattle.model.specs.Heap.{Occupied, Named, size_at, load, tree}
+use Rattle.model.specs.Heap.{Occupied, size_at, load, tree}
 use Rattle.model.specs.Block.{heap}
 use Rattle.model.specs.Moves.{Running, held, Among, Holding, Came, Still}
 use Rattle.model.proofs.maps.Compare.{lt_cmp, eq_cmp, gt_cmp}

@@ -1,4 +1,6 @@
 // The tree rules: the balanced make, insert, remove and lookup.
+#![tactic(auto)]
+
 pub mod held;
 
 ghost use Rattle.std.specs.Prelude.{◌≡◌, ℕ, ◌+◌, ◌<◌, [], ◌∷◌};
@@ -139,7 +141,7 @@ pub fn insert(b: &mut [u32], low: &mut u32, fresh: bool, n: u32, key: u32, value
 }
 
 // An entry taken out, and the node of the tree that is left.
-#[derive(Drop)]
+#[derive(Clone, Copy)]
 pub struct Rest {
     pub key: u32,
     pub value: u32,
@@ -147,10 +149,10 @@ pub struct Rest {
 }
 
 // The entry that was taken out, if there was room.
-#[derive(Drop)]
+#[derive(Clone, Copy)]
 pub enum Lost {
-    Into(Rest),
     Full,
+    Into(Rest),
 }
 
 // Takes the minimum out of the tree below n; the nodes above it are balanced makes.
