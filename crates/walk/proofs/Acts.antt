@@ -6,7 +6,7 @@ use Prim.Native.Nat.{ℕ, zero, suc, ◌≤◌, ◌<◌, compare, Ordering}
 use native.Mathlib.Omega.{arith}
 use lib.ListN.{length, drop}
 use lib.Dec.{eqb, leb}
-use Rattle.model.specs.Tree.{Tree, size, id_of}
+use Rattle.model.specs.Tree.{size, id_of}
 use Rattle.model.specs.Heap.{Heap, Occupied, Named, Linked, size_at, tree, load}
 use Rattle.model.specs.Listing.{Turn, on, yield, pend, opened, turn}
 use Rattle.model.proofs.block.Loads.{tree_node, tree_id, tree-size}

@@ -1,4 +1,6 @@
 // 001's walk of one tree against another, and the rows that it yields.
+#![tactic(auto)]
+
 ghost use Rattle.std.specs.Prelude.{◌≡◌, [], ◌∷◌, ◌-◌, ◌<◌, ◌≤◌};
 ghost use Rattle.model.specs.Heap.{Named, Occupied, Linked, tree};
 ghost use Rattle.model.specs.Block.{heap, Shaped, SoundBlock};
@@ -7,13 +9,13 @@ ghost use Rattle.walk.specs.Rows.{wants, words_by, words, width, changed_by, lac
 ghost use Rattle.walk.specs.Cursors.{one_of, place_of, pops_of, Standing, opened_at, trees, entries, both_of, alone_of, act_of, begun};
 
 // What is pending: a tree, or an entry whose left child has been shown.
-#[derive(Drop)]
+#[derive(Clone, Copy)]
 pub enum Pending {
     Tree(u32),
     Entry(u32, u32),
 }
 
-#[derive(Drop)]
+#[derive(Clone, Copy)]
 pub struct Place {
     pub item: Pending,
 }
@@ -25,14 +27,14 @@ pub struct Cursor {
 }
 
 // A key of the left side alone with its value, or a common key with both values.
-#[derive(Drop)]
+#[derive(Clone, Copy)]
 pub enum Yield {
     Only(u32, u32),
     Common(u32, u32, u32),
 }
 
 // What a turn does: open the top of a side, drop the right's top and so many on the left, or yield.
-#[derive(Drop)]
+#[derive(Clone, Copy)]
 pub enum Act {
     Left(u32),
     Right(u32),
@@ -41,7 +43,7 @@ pub enum Act {
 }
 
 // The three places of an opened node, and where the last two go.
-#[derive(Drop)]
+#[derive(Clone, Copy)]
 pub struct Opened {
     pub right: Place,
     pub entry: Place,
@@ -51,14 +53,14 @@ pub struct Opened {
 }
 
 // All rows; rows that are new or changed; rows that the right side lacks.
-#[derive(Drop)]
+#[derive(Clone, Copy)]
 pub enum Wanted {
     Rows,
     Puts,
     Removes,
 }
 
-#[derive(Drop)]
+#[derive(Clone, Copy)]
 pub enum Walked {
     Total(u32),
     TooDeep,
@@ -135,6 +137,7 @@ fn open(b: &[u32], m: u32, i: usize) -> Opened
 }
 
 // Identical trees are skipped; else the larger is opened, ties to the left.
+#[tactic(auto, using(crate::proofs::Cases::trees_same, crate::proofs::Cases::trees_left, crate::proofs::Cases::trees_right))]
 fn two_trees(b: &[u32], x: u32, y: u32) -> Act
     requires { Shaped b.now × Linked (heap b.now) × Named (heap b.now) x × Named (heap b.now) y }
     ensures { result ≡ trees (heap b.now) x y }
