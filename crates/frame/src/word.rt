@@ -5,7 +5,7 @@ ghost use Rattle.model.specs.Frame as model;
 ghost use Rattle.frame.specs.Eights.{eight_of, high_first, values_of, texts_of, packed_of};
 
 // What eight digits say: a number, or none where a byte is no digit.
-#[derive(Drop)]
+#[derive(Clone, Copy)]
 pub enum Eight {
     Is(u32),
     None,

@@ -1,4 +1,6 @@
 // The inbox: 130 words, batch, count and 128 heard words; bit b of heard word w is index 32w + b.
+#![tactic(auto)]
+
 ghost use Rattle.std.specs.Prelude.{◌≡◌, false, ◌+◌, ◌^◌, ◌<◌, ◌≤◌, length, replicate};
 ghost use Rattle.model.specs.Inbox as model;
 ghost use Rattle.model.specs.Inbox.{SoundInbox};
@@ -11,7 +13,7 @@ const SHAPE: u32 = 1;
 const DAMAGED: u32 = 2;
 
 // A number the call gives back, and how many frames are missing.
-#[derive(Drop)]
+#[derive(Clone, Copy)]
 pub struct Reply {
     pub number: u32,
     pub missing: u32,

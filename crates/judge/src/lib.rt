@@ -1,4 +1,6 @@
 // A line against an inbox, up to its edit and after it: what the table's receive and the kiosk's share.
+#![tactic(auto)]
+
 ghost use Rattle.std.specs.Prelude.{◌≡◌, ◌⊎◌};
 ghost use Rattle.model.specs.Inbox.{count_of, SoundInbox, marked};
 ghost use Rattle.model.specs.Inbox as model;
@@ -18,7 +20,7 @@ const COUNT: u32 = 9;
 const ZERO: u32 = 13;
 
 // The call's number, 1 for a repeat, how many frames are missing, and the place of a bad digit; zeros on any other refusal.
-#[derive(Drop)]
+#[derive(Clone, Copy)]
 pub struct Heard {
     pub number: u32,
     pub again: u32,
@@ -27,7 +29,7 @@ pub struct Heard {
 }
 
 // What is to be done with a line: it is refused, it changes nothing, or its edit is to be done.
-#[derive(Drop)]
+#[derive(Clone, Copy)]
 pub enum Verdict {
     Refused(Fault),
     Repeat,

@@ -15,7 +15,7 @@ const RUN: u32 = 17;
 const COMPLETE: u32 = 18;
 
 // A run's first and last index.
-#[derive(Drop)]
+#[derive(Clone, Copy)]
 pub enum Found {
     Run(u32, u32),
     None,
