@@ -123,8 +123,8 @@ put_other ws i e j h k =
     ∙ get_or-set_other (set ws (3 * i) e.kind) (3 * i + 1) j e.key 0 (λ q. omega arith)
     ∙ get_or-set_other ws (3 * i) j e.kind 0 (λ q. omega arith)
 
-put_record : (ws : List ℕ) (i : ℕ) (e : Edit) → i < 512 → length ws ≡ 1536 → record_at (put_record ws i e) i ≡ record_of e
-put_record ws i e h l =
+put_record_lem : (ws : List ℕ) (i : ℕ) (e : Edit) → i < 512 → length ws ≡ 1536 → record_at (put_record ws i e) i ≡ record_of e
+put_record_lem ws i e h l =
     let a = set ws (3 * i) e.kind in
     let b = set a (3 * i + 1) e.key in
     let la : length a ≡ length ws = length-set ws (3 * i) e.kind in
@@ -155,7 +155,7 @@ flat_records (e ∷ es) i ws h l =
       flat_before es (suc i) ws' (3 * i) (omega arith) (omega arith),
       flat_before es (suc i) ws' (3 * i + 1) (omega arith) (omega arith),
       flat_before es (suc i) ws' (3 * i + 2) (omega arith) (omega arith),
-      put_record ws i e (omega arith) l,
+      put_record_lem ws i e (omega arith) l,
       flat_records es (suc i) ws' (omega arith) (put-length ws i e (omega arith) ∙ l),
     )
 

@@ -1,4 +1,6 @@
 // A batch of edits in one call: one audit, and all edits take effect or none.
+#![tactic(auto)]
+
 pub mod records;
 
 ghost use Rattle.std.specs.Prelude.{◌*◌, ◌≤◌, [], ◌∷◌, length};

@@ -10,7 +10,7 @@ const EDIT: u32 = 16;
 
 // One edit: kind 1 puts, kind 2 removes. The value of a remove is not read.
 #[repr(C)]
-#[derive(Drop)]
+#[derive(Clone, Copy)]
 pub struct Edit {
     pub kind: u32,
     pub key: u32,

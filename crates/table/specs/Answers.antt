@@ -9,8 +9,8 @@ abbrev pub answer_of : Answer → calls.Answer
 answer_of a = record { number = a.number; found = a.found; value = a.value }
 
 -- minutes are a value of more bits
-abbrev pub minutesOf : Minutes → calls.Answer
-minutesOf a = record { number = a.number; found = 0; value = a.minutes }
+abbrev pub minutes_of : Minutes → calls.Answer
+minutes_of a = record { number = a.number; found = 0; value = a.minutes }
 
 -- what an edit answers: its refusal, or `a` when done
 abbrev pub ended : ℕ → calls.Answer → calls.Answer

@@ -7,7 +7,7 @@ ghost use Rattle.table.specs.Answers.{answer_of, minutes_of, ended};
 use block::Found;
 
 // The call's number, 0 for done, and two fields, 0 on refusal.
-#[derive(Drop)]
+#[derive(Clone, Copy)]
 pub struct Answer {
     pub number: u32,
     pub found: u32,
@@ -15,7 +15,7 @@ pub struct Answer {
 }
 
 // The call's number, 0 for done, and minutes, 0 on refusal.
-#[derive(Drop)]
+#[derive(Clone, Copy)]
 pub struct Minutes {
     pub number: u32,
     pub minutes: u64,

@@ -29,7 +29,8 @@ pub fn insert(b: &mut [u32], dst: u32, src: u32, key: u32, value: u32) -> Answer
     if n != 0 {
         return plain(n);
     }
-    if value == 0 {
+    let none = value == 0;
+    if none {
         return plain(ZERO);
     }
     let from = makes_from(b);

@@ -1,4 +1,6 @@
 // The public calls: checks in document 01's order, then the reading or the rule, then the end of the call.
+#![tactic(auto)]
+
 pub mod answers;
 pub mod checks;
 pub mod edits;
