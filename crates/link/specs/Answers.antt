@@ -25,9 +25,9 @@ Ready b x v n =
     (Check (SoundBlock b) (n ≡ DAMAGED) (Check (SoundInbox x) (n ≡ DAMAGED) (Check (v < 16) (n ≡ VERSION) (n ≡ 0)))))
 
 -- the rule of a frame on version v
-abbrev pub ruleOf : (b : List ℕ) (v : ℕ) → Frame → Make Tree
-ruleOf b v f = frame_rule (fields_of f) (version (heap b) v)
+abbrev pub rule_of : (b : List ℕ) (v : ℕ) → Frame → Make Tree
+rule_of b v f = frame_rule (fields_of f) (version (heap b) v)
 
 -- the edit of a frame: NO_ROOM and nothing changed, or the version becomes the rule's tree
 abbrev pub Editing : (b after : List ℕ) (v : ℕ) → Frame → ℕ → Type 0
-Editing b after v f n = Ending b after v (ruleOf b v f) n
+Editing b after v f n = Ending b after v (rule_of b v f) n

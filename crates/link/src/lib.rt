@@ -1,4 +1,6 @@
 // The calls of the link: what a line says, and what a standby does with it. A line is judged in crate judge; begin and the missing question are the inbox's own.
+#![tactic(auto)]
+
 ghost use Rattle.std.specs.Prelude.{◌<◌};
 ghost use Rattle.model.specs.Block.{SoundBlock};
 ghost use Rattle.model.specs.Frame as lines;
@@ -20,7 +22,7 @@ const DAMAGED: u32 = 2;
 const VERSION: u32 = 3;
 
 // 0 and a line's fields, or what is wrong with it and zeros; the place of a bad digit.
-#[derive(Drop)]
+#[derive(Clone, Copy)]
 pub struct Said {
     pub number: u32,
     pub fields: Frame,
@@ -87,7 +89,7 @@ fn edit(b: &mut [u32], version: u32, f: Frame) -> u32
     settle(b, version, from, made)
 }
 
-// One line at a standby. That lines heard one after another carry it from A to B is `standby-replicates` (crate model, proofs/Standbys),
+// One line at a standby. That lines heard one after another carry it from A to B is `standby_replicates` (crate model, proofs/link/Standbys),
 // which is stated of this contract.
 pub fn receive(b: &mut [u32], x: &mut [u32], version: u32, line: &[u8]) -> Heard
     ensures { Receive (step b.old x.old b.new x.new result) version line.now }

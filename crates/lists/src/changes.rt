@@ -11,7 +11,7 @@ use frame::Frame;
 use walk::{Walked, Wanted};
 
 // How many changes are puts, and how many there are in all.
-#[derive(Drop)]
+#[derive(Clone, Copy)]
 pub enum Collected {
     Changes(u32, u32),
     TooDeep,
@@ -43,7 +43,8 @@ pub fn at_least_one(count: u32) -> u32
     if count == 0 { 1 } else { count }
 }
 
-// The frame of change i among `count`.
+// The frame of change i among `count`. A call of its own, as its 1 becomes constant data where it stands in a loop.
+#[inline(never)]
 pub fn frame_at(changes: &[u32], puts: u32, count: u32, batch: u32, i: u32) -> Frame
     requires { (2 * count ≤ length changes.now) × (count ≤ 4096) × (i < at_least_one count) }
     ensures { fields_of result ≡ frame_in batch puts count changes.now i }

@@ -3,7 +3,7 @@ ghost use Rattle.std.specs.Prelude.{◌≡◌, ◌-◌, min};
 ghost use Rattle.lists.specs.Reports.{report_of, refused};
 
 // The call's number, 0 for done, how many words or bytes were written, and how many pieces there are in all.
-#[derive(Drop)]
+#[derive(Clone, Copy)]
 pub struct Report {
     pub number: u32,
     pub written: u32,

@@ -16,9 +16,9 @@ said (Is e) = some (pair e)
 said Malformed = none
 
 -- zeros where it says nothing
-abbrev pub orZeros : Option tree.Entry → tree.Entry
-orZeros none = (0, 0)
-orZeros (some e) = e
+abbrev pub or_zeros : Option tree.Entry → tree.Entry
+or_zeros none = (0, 0)
+or_zeros (some e) = e
 
 -- the first faulty line and what is wrong with it, or 0 and 0
 pub record Judged (text : List ℕ) (n line : ℕ) : Type 0 where

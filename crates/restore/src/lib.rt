@@ -1,4 +1,6 @@
 // A version loaded from a sorted listing: lines of 16 digits and a newline, key then value, ascending.
+#![tactic(auto)]
+
 ghost use Rattle.std.specs.Prelude.{◌≡◌, [], ℕ, ◌≤◌, ◌<◌, length};
 ghost use Rattle.model.specs.Text.{entry_of, entries_of};
 ghost use Rattle.model.specs.Moves.{Holding};
@@ -20,21 +22,21 @@ const LINE: u32 = 17;
 
 const ORDER: u32 = 18;
 
-#[derive(Drop)]
+#[derive(Clone, Copy)]
 pub struct Entry {
     pub key: u32,
     pub value: u32,
 }
 
 // What a line says: an entry, or nothing.
-#[derive(Drop)]
+#[derive(Clone, Copy)]
 enum Line {
     Is(Entry),
     Malformed,
 }
 
 // The number, and the number of the faulty line, 0 beside every other answer.
-#[derive(Drop)]
+#[derive(Clone, Copy)]
 pub struct Answer {
     pub number: u32,
     pub line: u64,
