@@ -15,8 +15,8 @@ use Rattle.kiosk.specs.declared.reads.Report.{Report}
 abbrev pub answer_of : Answer → calls.Answer
 answer_of a = record { number = a.number; found = a.found; value = a.value }
 
-abbrev pub reportOf : Report → lists.Report
-reportOf r = record { number = r.number; written = r.written; total = r.total }
+abbrev pub report_of : Report → lists.Report
+report_of r = record { number = r.number; written = r.written; total = r.total }
 
 -- kiosk and inbox before and after a line, and the answer
 abbrev pub step : (k x k' x' : List ℕ) → Heard → Step

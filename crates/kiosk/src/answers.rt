@@ -5,7 +5,7 @@ ghost use Rattle.model.specs.Calls.{refusal, finding};
 ghost use Rattle.kiosk.specs.Answers.{answer_of};
 
 // The call's number, 0 for done, and two fields, 0 on refusal.
-#[derive(Drop)]
+#[derive(Clone, Copy)]
 pub struct Answer {
     pub number: u32,
     pub found: u32,

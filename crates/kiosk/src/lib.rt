@@ -1,4 +1,6 @@
 // The kiosk's flat table: a lent slice of 129 words, the number of entries and then 64 pairs of key and value, keys ascending.
+#![tactic(auto)]
+
 mod answers;
 mod edits;
 mod lines;

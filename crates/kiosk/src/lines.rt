@@ -1,5 +1,5 @@
-// One line at a kiosk, judged as at the table. That lines heard one after another carry it from A to B is `kiosk-replicates`
-// (crate model, proofs/Standbys), which is stated of this contract.
+// One line at a kiosk, judged as at the table. That lines heard one after another carry it from A to B is `kiosk_replicates`
+// (crate model, proofs/link/Standbys), which is stated of this contract.
 ghost use Rattle.model.specs.Kiosk.{Receive};
 ghost use Rattle.kiosk.specs.Answers.{step, Ready};
 

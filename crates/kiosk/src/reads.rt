@@ -8,7 +8,7 @@ use crate::answers::{Answer, refusal};
 use crate::slice::{check, place, value_at, wide};
 
 // The call's number, 0 for done, how many words were written, and how many entries there are in all.
-#[derive(Drop)]
+#[derive(Clone, Copy)]
 pub struct Report {
     pub number: u32,
     pub written: u32,

@@ -12,7 +12,7 @@ use Rattle.model.specs.Block.{heap}
 use Rattle.model.specs.Calls.{Check, fails, passes, Answer, finding, Edit, Edits, Lookup, inserting, removing}
 use Rattle.model.proofs.calls.Checks.{check_map, check_holds, check_next}
 use Rattle.model.proofs.calls.Meanings.{refused_edit_changes_nothing}
-use Rattle.ledger.specs.Numbers.{ACCOUNTS, ACCOUNT, OPEN, NOT-OPEN, FREE, ABOVE, TOTAL, EDIT-REFUSED}
+use Rattle.ledger.specs.Numbers.{ACCOUNTS, ACCOUNT, OPEN, NOT_OPEN, FREE, ABOVE, TOTAL, EDIT_REFUSED}
 use Rattle.ledger.specs.Ledger.{spent, free, accounts, Formed, account_of, less_free, settled_for, Fit, replying, turned_away, Known, Begins, Ends, Reserve, Settle}
 use Rattle.ledger.specs.Parts.{reply_of, act, Asks}
 use Rattle.ledger.specs.declared.Reply.{Reply}
@@ -61,7 +61,7 @@ finding-number none = refl
 finding-number (some v) = refl
 
 module _ {b c : List ℕ} (l : List ℕ) (e : Edit) {a : Answer} (E : Edits b c e a) {r : Reply} where
-  ends_refused : (after : List ℕ) → e.answer.number ≡ 0 → a.number ≢ 0 → reply_of r ≡ replying EDIT-REFUSED a.number → Ends (act l b l c r) e after
+  ends_refused : (after : List ℕ) → e.answer.number ≡ 0 → a.number ≢ 0 → reply_of r ≡ replying EDIT_REFUSED a.number → Ends (act l b l c r) e after
   ends_refused after w ne x = (a, E, fails ne (x, refl, refused_edit_changes_nothing e w E ne))
 
   ends_done : {l' : List ℕ} → a.number ≡ 0 → reply_of r ≡ replying 0 0 → Ends (act l b l' c r) e l'
@@ -92,7 +92,7 @@ module _ {l b : List ℕ} {v call : ℕ} {q : Asked} (G : Going l b v call q) wh
       not_enough lt x = begins (passes (sym G.found ∙ new) (fails (λ k. omega arith) (x, refl, refl)))
 
       module _ (le : minutes ≤ free l (account_of call)) {c : List ℕ} {a : Answer} (E : Edits b c (inserting b v v call minutes) a) where
-        pub reserve_refused : a.number ≢ 0 → reply_of r ≡ replying EDIT-REFUSED a.number → Reserve (act l b l c r) v call minutes
+        pub reserve_refused : a.number ≢ 0 → reply_of r ≡ replying EDIT_REFUSED a.number → Reserve (act l b l c r) v call minutes
         reserve_refused ne x = begins (passes (sym G.found ∙ new) (passes le (ends_refused l (inserting b v v call minutes) E (less_free l (account_of call) minutes) (finding-number (lookup (version (heap b) v) call)) ne x)))
 
         pub reserve_ends : a.number ≡ 0 → reply_of r ≡ replying 0 0 → Reserve (act l b (less_free l (account_of call) minutes) c r) v call minutes
@@ -100,7 +100,7 @@ module _ {l b : List ℕ} {v call : ℕ} {q : Asked} (G : Going l b v call q) wh
 
   -- settle
   module _ (used : ℕ) {r : Reply} where
-    pub not_open : q.found ≡ 0 → reply_of r ≡ replying NOT-OPEN 0 → Settle (act l b l b r) v call used
+    pub not_open : q.found ≡ 0 → reply_of r ≡ replying NOT_OPEN 0 → Settle (act l b l b r) v call used
     not_open n x = begins (fails (λ k. k (sym G.found ∙ n)) (x, refl, refl))
 
     module _ (was : q.found ≢ 0) where
@@ -114,7 +114,7 @@ module _ {l b : List ℕ} {v call : ℕ} {q : Asked} (G : Going l b v call q) wh
 
         module _ (f : Fit (spent l (account_of call) + used) (free l (account_of call) + (q.value - used))) where
           pub settle_refused : {c : List ℕ} {a : Answer} → Edits b c (removing b v v call) a → a.number ≢ 0
-              → reply_of r ≡ replying EDIT-REFUSED a.number → Settle (act l b l c r) v call used
+              → reply_of r ≡ replying EDIT_REFUSED a.number → Settle (act l b l c r) v call used
           settle_refused E ne x =
               begins (passes (was_found was) (passes (subst (λ y. used ≤ y) G.value le) (passes (subst (λ y. Fit (spent l (account_of call) + used) (free l (account_of call) + (y - used))) G.value f)
               (ends_refused l (removing b v v call) E (settled_for l (account_of call) G.answer.value used) (finding-number (lookup (version (heap b) v) call)) ne x))))

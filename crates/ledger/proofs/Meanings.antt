@@ -15,7 +15,7 @@ use Rattle.model.proofs.maps.Maps.{updated_at, without_is}
 use Rattle.model.proofs.block.Versions.{version_ordered}
 use Rattle.model.proofs.calls.Meanings.{edit_done, insert-puts, remove_takes_out, lookup_finds}
 use Rattle.ledger.specs.Ledger.{topped, spent, free, accounts, Formed, account_of, topped_up, less_free, settled_for, Fit, Reply, Act, turned_away, Begins, Ends, Reserve, Settle}
-use Rattle.ledger.specs.Numbers.{OPEN, NOT-OPEN, FREE, ABOVE, TOTAL}
+use Rattle.ledger.specs.Numbers.{OPEN, NOT_OPEN, FREE, ABOVE, TOTAL}
 use Rattle.ledger.specs.Steps.{Operation, top_up, reserve, settle, release, Does}
 
 -- a refusal's number is not 0
@@ -129,7 +129,7 @@ pub settle_takes_out : (s : Act) (v call used : ℕ) → Settle s v call used �
 settle_takes_out s v call used R z = let B = begun s v call R z in go B.formed B.known B.answer B.is B.goes_on
   where
     go : Formed s.ledger → account_of call < accounts s.ledger → (a : Answer) → a ≡ finding (find (entries (version (heap s.block) v)) call)
-        → Check (a.found ≢ 0) (turned_away s NOT-OPEN 0) (Check (used ≤ a.value) (turned_away s ABOVE 0)
+        → Check (a.found ≢ 0) (turned_away s NOT_OPEN 0) (Check (used ≤ a.value) (turned_away s ABOVE 0)
         (Check (Fit (spent s.ledger (account_of call) + used) (free s.ledger (account_of call) + (a.value - used))) (turned_away s TOTAL 0)
         (Ends s (removing s.block v v call) (settled_for s.ledger (account_of call) a.value used))))
         → Settled s v call used

@@ -8,7 +8,7 @@ use Rattle.model.specs.Block as blocks
 use Rattle.model.specs.Block.{heap}
 use Rattle.model.specs.Calls.{Check, Answer, finding, Edit, inserting, removing}
 use Rattle.model.proofs.calls.Once.{check_once, reads_once, edits_once}
-use Rattle.ledger.specs.Numbers.{LOOKUP, EDIT-REFUSED}
+use Rattle.ledger.specs.Numbers.{LOOKUP, EDIT_REFUSED}
 use Rattle.ledger.specs.Ledger.{account_of, less_free, settled_for, Reply, replying, Act, turned_away, Begins, Ends, Fresh, TopUp, Reserve, Settle, Totals, Account}
 use Rattle.ledger.specs.Steps.{Operation, top_up, reserve, settle, release, Does}
 
@@ -59,10 +59,10 @@ module _ (v : ℕ) (l b x c y d : List ℕ) (i j : Reply) (wc : blocks.Words c) 
   ends_once e after A C = let E = edits_once b c d e A.0 C.0 wc wd A.1 C.1 in edited A.0 C.0 E.0 E.1 A.2 C.2
     where
       edited : (a k : Answer) → a ≡ k → c ≡ d
-          → Check (a.number ≡ 0) (turned_away s EDIT-REFUSED a.number) ((i ≡ replying 0 0) × (x ≡ after))
-          → Check (k.number ≡ 0) (turned_away t EDIT-REFUSED k.number) ((j ≡ replying 0 0) × (y ≡ after)) → One
+          → Check (a.number ≡ 0) (turned_away s EDIT_REFUSED a.number) ((i ≡ replying 0 0) × (x ≡ after))
+          → Check (k.number ≡ 0) (turned_away t EDIT_REFUSED k.number) ((j ≡ replying 0 0) × (y ≡ after)) → One
       edited a k e u A C =
-          check_once A (subst (λ (k : Answer). Check (k.number ≡ 0) (turned_away t EDIT-REFUSED k.number) ((j ≡ replying 0 0) × (y ≡ after))) (sym e) C) same
+          check_once A (subst (λ (k : Answer). Check (k.number ≡ 0) (turned_away t EDIT_REFUSED k.number) ((j ≡ replying 0 0) × (y ≡ after))) (sym e) C) same
           (λ p q. (p.0 ∙ sym q.0, p.1 ∙ sym q.1, u))
 
   pub reserve_once : (call minutes : ℕ) → Reserve s v call minutes → Reserve t v call minutes → One

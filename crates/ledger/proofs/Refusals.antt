@@ -14,7 +14,7 @@ use Rattle.model.specs.Calls.{fails, passes, Answer, finding, Edit, Edits, Looku
 use Rattle.model.proofs.calls.Meanings.{edit_done, refused_edit_changes_nothing, others_keep_their_entries, lookup_finds}
 use Rattle.model.proofs.calls.Refusals.{zero_exactly}
 use Rattle.table.proofs.Admitting.{one_known, two_known}
-use Rattle.ledger.specs.Numbers.{OPEN, TOTAL, EDIT-REFUSED}
+use Rattle.ledger.specs.Numbers.{OPEN, TOTAL, EDIT_REFUSED}
 use Rattle.ledger.specs.Ledger.{fresh_ledger, accounts, Formed, account_of, Reply, replying, Act, turned_away, Reserve, Settle}
 use Rattle.ledger.specs.Steps.{Steps, beside}
 use Rattle.ledger.proofs.Sums.{reserved-without}
@@ -50,20 +50,20 @@ pub may_be_used_again : (s t : Act) (v call used minutes : ℕ) → Settle s v c
     → Reserve t v call minutes → t.answer.number ≢ OPEN
 may_be_used_again s t v call used minutes D z e R = not_open_yet t v call minutes (ap (λ b. find (entries (version (heap b) v)) call) e ∙ (settle_takes_out s v call used D z).gone) R
 
--- OPEN and NOT-OPEN say what the version holds
+-- OPEN and NOT_OPEN say what the version holds
 pub open_means : (s : Act) (v call minutes : ℕ) → Reserve s v call minutes → s.answer.number ≡ OPEN → find (entries (version (heap s.block) v)) call ≢ none
 open_means s v call minutes R e n = not_open_yet s v call minutes n R e
 
--- 0 minutes are not reserved: where nothing before it is wrong, the answer is EDIT-REFUSED and the table's ZERO beside it
+-- 0 minutes are not reserved: where nothing before it is wrong, the answer is EDIT_REFUSED and the table's ZERO beside it
 pub reserve_zero : (s : Act) (v call : ℕ) → Formed s.ledger → account_of call < accounts s.ledger → SoundBlock s.block → v < 16
     → find (entries (version (heap s.block) v)) call ≡ none → Reserve s v call 0
-    → s.answer ≡ replying EDIT-REFUSED ZERO
+    → s.answer ≡ replying EDIT_REFUSED ZERO
 reserve_zero s v call F K B lt n (fails p r) = absurd (p F)
 reserve_zero s v call F K B lt n (passes p (fails k r)) = absurd (k K)
 reserve_zero s v call F K B lt n (passes p (passes k (a, L, fails u r))) = absurd (u (looked_up call B lt L))
 reserve_zero s v call F K B lt n (passes p (passes k (a, L, passes u (fails f r)))) = absurd (f (ap (λ (x : Answer). x.found) (lookup_finds v call L u ∙ ap finding n)))
 reserve_zero s v call F K B lt n (passes p (passes k (a, L, passes u (passes f (fails q r))))) = absurd (q (omega arith))
-reserve_zero s v call F K B lt n (passes p (passes k (a, L, passes u (passes f (passes q (d, E, fails w r)))))) = r.0 ∙ ap (replying EDIT-REFUSED) ((zero_exactly v v call 0 E).1 (B, two_known lt lt, refl))
+reserve_zero s v call F K B lt n (passes p (passes k (a, L, passes u (passes f (passes q (d, E, fails w r)))))) = r.0 ∙ ap (replying EDIT_REFUSED) ((zero_exactly v v call 0 E).1 (B, two_known lt lt, refl))
 reserve_zero s v call F K B lt n (passes p (passes k (a, L, passes u (passes f (passes q (d, E, passes w r)))))) = let z : ◌≡◌ {A = ℕ} 13 0 = sym ((zero_exactly v v call 0 E).1 (B, two_known lt lt, refl)) ∙ w in absurd (omega arith)
 
 -- Steps of the history.

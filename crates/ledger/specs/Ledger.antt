@@ -3,7 +3,7 @@
 use Rattle.std.specs.Prelude.{◌≡◌, ◌≢◌, ℕ, ◌+◌, ◌-◌, ◌*◌, ◌/◌, ◌%◌, ◌^◌, ◌≤◌, ◌<◌, true, false, List, [], ◌∷◌, length, get_or, set, replicate, eqb}
 use Rattle.model.specs.Tree.{Entry}
 use Rattle.model.specs.Calls.{Check, Answer, Edit, Edits, Lookup, inserting, removing}
-use Rattle.ledger.specs.Numbers.{ACCOUNTS, ACCOUNT, LOOKUP, OPEN, NOT-OPEN, FREE, ABOVE, TOTAL, EDIT-REFUSED}
+use Rattle.ledger.specs.Numbers.{ACCOUNTS, ACCOUNT, LOOKUP, OPEN, NOT_OPEN, FREE, ABOVE, TOTAL, EDIT_REFUSED}
 
 -- Three words of 64 bits an account: topped-up, spent and free minutes.
 
@@ -54,7 +54,7 @@ settled_for l a held used = set (set l (3 * a + 1) (spent l a + used)) (3 * a + 
 abbrev pub Fit : (x y : ℕ) → Type 0
 Fit x y = (x < 2 ^ 64) × (y < 2 ^ 64)
 
--- the operation's number, 0 for done, and the table's beside LOOKUP and EDIT-REFUSED, else 0
+-- the operation's number, 0 for done, and the table's beside LOOKUP and EDIT_REFUSED, else 0
 pub record Reply : Type 0 where
   pub number : ℕ
   pub table : ℕ
@@ -85,7 +85,7 @@ Begins l b v call away next =
 
 -- the last: the table's edit; only where it is done the ledger's words change
 abbrev pub Ends : Act → Edit → (after : List ℕ) → Type 0
-Ends s e after = (a : Answer) × Edits s.block s.block' e a × Check (a.number ≡ 0) (turned_away s EDIT-REFUSED a.number) ((s.answer ≡ replying 0 0) × (s.ledger' ≡ after))
+Ends s e after = (a : Answer) × Edits s.block s.block' e a × Check (a.number ≡ 0) (turned_away s EDIT_REFUSED a.number) ((s.answer ≡ replying 0 0) × (s.ledger' ≡ after))
 
 -- The operations.
 
@@ -111,7 +111,7 @@ Reserve s v call minutes = Begins s.ledger s.block v call (turned_away s) (λ a.
 -- what is used is spent and the rest is free again
 abbrev pub Settle : Act → (v call used : ℕ) → Type 0
 Settle s v call used = Begins s.ledger s.block v call (turned_away s) (λ a.
-    Check (a.found ≢ 0) (turned_away s NOT-OPEN 0)
+    Check (a.found ≢ 0) (turned_away s NOT_OPEN 0)
     (Check (used ≤ a.value) (turned_away s ABOVE 0)
     (Check (Fit (spent s.ledger (account_of call) + used) (free s.ledger (account_of call) + (a.value - used))) (turned_away s TOTAL 0)
     (Ends s (removing s.block v v call) (settled_for s.ledger (account_of call) a.value used)))))

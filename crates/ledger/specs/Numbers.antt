@@ -18,8 +18,8 @@ abbrev pub OPEN : ℕ
 OPEN = 24
 
 -- the call is not open
-abbrev pub NOT-OPEN : ℕ
-NOT-OPEN = 25
+abbrev pub NOT_OPEN : ℕ
+NOT_OPEN = 25
 
 -- less is free than is to be reserved
 abbrev pub FREE : ℕ
@@ -34,5 +34,5 @@ abbrev pub TOTAL : ℕ
 TOTAL = 28
 
 -- the table refused the edit; its number stands beside
-abbrev pub EDIT-REFUSED : ℕ
-EDIT-REFUSED = 29
+abbrev pub EDIT_REFUSED : ℕ
+EDIT_REFUSED = 29

@@ -1,4 +1,6 @@
 // Accounts above the table: three totals of 64 bits each, topped-up, spent and free; open calls stand in a version of the block and nowhere else.
+#![tactic(auto)]
+
 ghost use Rattle.std.specs.Prelude.{◌≡◌, ◌+◌, ◌*◌, ◌≤◌, ◌<◌, ◌^◌, length};
 ghost use Rattle.model.specs.Tells.{Tells};
 ghost use Rattle.ledger.specs.Ledger.{Formed, Known, Fit, Fresh, TopUp, Reserve, Settle, Release, Account};
@@ -25,14 +27,14 @@ const TOTAL: u32 = 28;
 const EDIT_REFUSED: u32 = 29;
 
 // The operation's number, 0 for done, and the table's number where the table refused, else 0.
-#[derive(Drop)]
+#[derive(Clone, Copy)]
 pub struct Reply {
     pub number: u32,
     pub table: u32,
 }
 
 // An account's totals, zeros on refusal.
-#[derive(Drop)]
+#[derive(Clone, Copy)]
 pub struct Totals {
     pub number: u32,
     pub topped: u64,
@@ -41,7 +43,7 @@ pub struct Totals {
 }
 
 // What is known of a call before an operation on it: a refusal and the table's number, or what the lookup found.
-#[derive(Drop)]
+#[derive(Clone, Copy)]
 struct Asked {
     number: u32,
     table: u32,
