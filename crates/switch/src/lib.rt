@@ -1,4 +1,6 @@
 // What the switch's host calls: one call each, and nothing else. Each answers the number and sets its fields through the pointers.
+#![tactic(auto)]
+
 ghost use Rattle.model.specs.Calls.{Fresh, Lookup, Size, Held, HeldBetween, Edits, inserting, removing, copying, clearing, uniting, lessening, Checked};
 ghost use Rattle.model.specs.Batch.{BatchWords};
 ghost use Rattle.model.specs.Restore.{Restore};
@@ -249,7 +251,7 @@ pub extern "C" fn ksk_parse(
     value: &mut u32,
     place: &mut u32,
 ) -> u32
-    ensures { Parse (read line.now) result (record { batch = batch.exit.now; index = index.new; count = count.new; kind = kind.new; key = key.new; value = value.new }) place.new }
+    ensures { Parse (read line.now) result (record { batch = batch.new; index = index.new; count = count.new; kind = kind.new; key = key.new; value = value.new }) place.new }
 {
     let a = link::parse(line);
     let f = a.fields;
@@ -282,7 +284,7 @@ pub extern "C" fn ksk_receive(
     missing: &mut u32,
     place: &mut u32,
 ) -> u32
-    ensures { Receive (record { block = block.entry.now; inbox = inbox.old; block' = block.exit.now; inbox' = inbox.new; answer = record { number = result; again = repeat.new; missing = missing.new; place = place.new } }) version line.now }
+    ensures { Receive (record { block = block.old; inbox = inbox.old; block' = block.new; inbox' = inbox.new; answer = record { number = result; again = repeat.new; missing = missing.new; place = place.new } }) version line.now }
 {
     let a = link::receive(block, inbox, version, line);
     *repeat = a.again;
@@ -331,7 +333,7 @@ pub extern "C" fn ksk_resend(
     written: &mut u32,
     total: &mut u32,
 ) -> u32
-    ensures { Resend (record { block = block.entry.now; from = from; to = to; batch = batch }) request.now out.old out.new start (record { number = result; written = written.new; total = total.new }) }
+    ensures { Resend (record { block = block.now; from = from; to = to; batch = batch }) request.now out.old out.new start (record { number = result; written = written.new; total = total.new }) }
 {
     let a = lists::resend::resend(block, from, to, batch, request, start, out);
     *written = a.written;
@@ -373,7 +375,7 @@ pub extern "C" fn ksk_ledger_reserve(
     minutes: u32,
     table: &mut u32,
 ) -> u32
-    ensures { totals.Reserve (record { ledger = ledger.entry.now; block = block.old; ledger' = ledger.exit.now; block' = block.new; answer = record { number = result; table = table.new } }) version call minutes }
+    ensures { totals.Reserve (record { ledger = ledger.old; block = block.old; ledger' = ledger.new; block' = block.new; answer = record { number = result; table = table.new } }) version call minutes }
 {
     let a = ledger::reserve(ledger, block, version, call, minutes);
     *table = a.table;
@@ -390,7 +392,7 @@ pub extern "C" fn ksk_ledger_settle(
     used: u32,
     table: &mut u32,
 ) -> u32
-    ensures { totals.Settle (record { ledger = ledger.entry.now; block = block.old; ledger' = ledger.exit.now; block' = block.new; answer = record { number = result; table = table.new } }) version call used }
+    ensures { totals.Settle (record { ledger = ledger.old; block = block.old; ledger' = ledger.new; block' = block.new; answer = record { number = result; table = table.new } }) version call used }
 {
     let a = ledger::settle(ledger, block, version, call, used);
     *table = a.table;
@@ -406,7 +408,7 @@ pub extern "C" fn ksk_ledger_release(
     call: u32,
     table: &mut u32,
 ) -> u32
-    ensures { totals.Release (record { ledger = ledger.entry.now; block = block.old; ledger' = ledger.exit.now; block' = block.new; answer = record { number = result; table = table.new } }) version call }
+    ensures { totals.Release (record { ledger = ledger.old; block = block.old; ledger' = ledger.new; block' = block.new; answer = record { number = result; table = table.new } }) version call }
 {
     let a = ledger::release(ledger, block, version, call);
     *table = a.table;
