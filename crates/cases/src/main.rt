@@ -1,27 +1,26 @@
 // Cases 9 to 11 of document 01 and the longest chains, run through the public calls; what is printed is compared.
+#![tactic(auto)]
+
 ghost use Rattle.std.specs.Prelude.{◌≤◌, ◌<◌};
 
 use link::parse;
 use lists::entries::list;
+use std::io;
 use table::{
     Answer, Minutes, clear, copy, difference, fresh, held, held_between, insert, lookup, remove,
     size, union,
 };
 
-fn text(s: &[u8]) {
-    io::write_all(1, s);
-}
-
 // The number that a call gave back.
-fn number(a: Answer) {
-    text(b" ");
-    io::print_decimal(1, a.number as u64);
+fn number(rt: &impl Print, a: Answer) -> io::Result<()> {
+    let number = a.number;
+    print!(rt; " {number}")
 }
 
 // What was done, and that number.
-fn show(s: &[u8], a: Answer) {
-    text(s);
-    number(a);
+fn show(rt: &impl Print, s: &str, a: Answer) -> io::Result<()> {
+    rt.print(s)?;
+    number(rt, a)
 }
 
 // Keys 1 to n, ascending, into a version.
@@ -34,7 +33,7 @@ fn fill(b: &mut [u32], version: u32, n: u32) {
 }
 
 // Beside two trees of 12, one of 1 and the chain 1, 2, 3, four of 32 nodes are free. The insert of 4 makes five, and takes one of them apart before it makes the last two.
-fn exact_room() {
+fn exact_room(rt: &impl Print) -> io::Result<()> {
     let mut b = [0u32; 274];
     fresh(&mut b, 32);
     fill(&mut b, 1, 12);
@@ -43,9 +42,9 @@ fn exact_room() {
     fill(&mut b, 0, 3);
     let mut crowded = b;
     insert(&mut crowded, 4, 4, 9, 9);
-    show(b"case 10: exact room", insert(&mut b, 0, 0, 4, 4));
-    show(b", one fewer", insert(&mut crowded, 0, 0, 4, 4));
-    text(b"\n");
+    show(rt, "case 10: exact room", insert(&mut b, 0, 0, 4, 4))?;
+    show(rt, ", one fewer", insert(&mut crowded, 0, 0, 4, 4))?;
+    rt.print("\n")
 }
 
 // One of the calls, on the versions that it names.
@@ -75,81 +74,89 @@ fn call(b: &mut [u32], which: u32, v: u32, w: u32, x: u32, key: u32) -> Answer {
 }
 
 // Each of the calls in turn.
-fn calls(b: &mut [u32], v: u32, w: u32, x: u32, key: u32) {
+fn calls(rt: &impl Print, b: &mut [u32], v: u32, w: u32, x: u32, key: u32) -> io::Result<()> {
     let mut which = 0;
     while which < 8 {
-        number(call(b, which, v, w, x, key));
+        number(rt, call(b, which, v, w, x, key))?;
         which += 1;
     }
+    Ok(())
 }
 
-fn name_version(v: u32) {
+fn name_version(rt: &impl Print, v: u32) -> io::Result<()> {
     let mut b = [0u32; 274];
     fresh(&mut b, 32);
-    calls(&mut b, v, 0, 0, 1);
-    text(b", second:");
-    calls(&mut b, 0, v, 0, 1);
-    text(b", third:");
-    calls(&mut b, 0, 0, v, 1);
-    text(b"\n");
+    calls(rt, &mut b, v, 0, 0, 1)?;
+    rt.print(", second:")?;
+    calls(rt, &mut b, 0, v, 0, 1)?;
+    rt.print(", third:")?;
+    calls(rt, &mut b, 0, 0, v, 1)?;
+    rt.print("\n")
 }
 
-fn known_versions() {
-    text(b"calls: lookup, size, clear, insert, remove, copy, union, difference\n");
-    text(b"case 11: version 15 first:");
-    name_version(15);
-    text(b"case 11: version 16 first:");
-    name_version(16);
+fn known_versions(rt: &impl Print) -> io::Result<()> {
+    rt.print("calls: lookup, size, clear, insert, remove, copy, union, difference\n")?;
+    rt.print("case 11: version 15 first:")?;
+    name_version(rt, 15)?;
+    rt.print("case 11: version 16 first:")?;
+    name_version(rt, 16)
 }
 
-fn largest() {
+fn largest(rt: &impl Print) -> io::Result<()> {
     let mut b = [0u32; 32913];
-    show(b"case 11: N 4096", fresh(&mut b, 4096));
+    show(rt, "case 11: N 4096", fresh(&mut b, 4096))?;
     let mut c = [0u32; 33170];
-    show(b", N 4128", fresh(&mut c, 4128));
-    text(b"\n");
+    show(rt, ", N 4128", fresh(&mut c, 4128))?;
+    rt.print("\n")
 }
 
 // A version number is looked at before a rule number.
-fn known_rules() {
+fn known_rules(rt: &impl Print) -> io::Result<()> {
     let mut b = [0u32; 274];
     fresh(&mut b, 32);
-    show(b"rules: union by 4", union(&mut b, 0, 0, 0, 4));
-    show(b", by 5", union(&mut b, 0, 0, 0, 5));
-    show(b", of version 16 by 5", union(&mut b, 0, 16, 0, 5));
-    show(b", difference by 4", difference(&mut b, 0, 0, 0, 4, false));
-    show(b", by 2 cancelling", difference(&mut b, 0, 0, 0, 2, true));
-    text(b"\n");
+    show(rt, "rules: union by 4", union(&mut b, 0, 0, 0, 4))?;
+    show(rt, ", by 5", union(&mut b, 0, 0, 0, 5))?;
+    show(rt, ", of version 16 by 5", union(&mut b, 0, 16, 0, 5))?;
+    show(
+        rt,
+        ", difference by 4",
+        difference(&mut b, 0, 0, 0, 4, false),
+    )?;
+    show(
+        rt,
+        ", by 2 cancelling",
+        difference(&mut b, 0, 0, 0, 2, true),
+    )?;
+    rt.print("\n")
 }
 
 // What version 1 holds under key 1, after the call that made it.
-fn holds(s: &[u8], b: &[u32], a: Answer) {
-    show(s, a);
+fn holds(rt: &impl Print, s: &str, b: &[u32], a: Answer) -> io::Result<()> {
+    show(rt, s, a)?;
     let f = lookup(b, 1, 1);
-    text(b" ");
-    io::print_decimal(1, f.found as u64);
-    text(b":");
-    io::print_decimal(1, f.value as u64);
+    let found = f.found;
+    let value = f.value;
+    print!(rt; " {found}:{value}")
 }
 
 // 0 minutes are not put, whether the key is there or not, and a version number is looked at before. A block that holds them by hand is sound, and they are
 // carried: node 1 has its value at word 19 and its sum at 24.
-fn zeros() {
+fn zeros(rt: &impl Print) -> io::Result<()> {
     let mut b = [0u32; 274];
     fresh(&mut b, 32);
-    show(b"zeros: insert", insert(&mut b, 0, 0, 1, 0));
-    show(b", of version 16", insert(&mut b, 0, 16, 1, 0));
+    show(rt, "zeros: insert", insert(&mut b, 0, 0, 1, 0))?;
+    show(rt, ", of version 16", insert(&mut b, 0, 16, 1, 0))?;
     insert(&mut b, 0, 0, 1, 7);
-    show(b", of a key that is there", insert(&mut b, 0, 0, 1, 0));
+    show(rt, ", of a key that is there", insert(&mut b, 0, 0, 1, 0))?;
     put(&mut b, 19, 0);
     put(&mut b, 24, 0);
     let a = copy(&mut b, 1, 0);
-    holds(b", by hand: copy", &b, a);
+    holds(rt, ", by hand: copy", &b, a)?;
     let a = union(&mut b, 1, 0, 2, 4);
-    holds(b", union", &b, a);
+    holds(rt, ", union", &b, a)?;
     let a = difference(&mut b, 1, 0, 2, 0, false);
-    holds(b", difference", &b, a);
-    text(b"\n");
+    holds(rt, ", difference", &b, a)?;
+    rt.print("\n")
 }
 
 fn put(b: &mut [u32], at: usize, x: u32) {
@@ -186,28 +193,29 @@ fn chain(b: &mut [u32], n: u32)
 }
 
 // No node is free in a chain of 4,096, so only what makes nothing succeeds; the key is the deepest.
-fn full_chain() {
+fn full_chain(rt: &impl Print) -> io::Result<()> {
     let mut b = [0u32; 32913];
     chain(&mut b, 4096);
-    text(b"chain of 4096 into version 1:");
-    calls(&mut b, 1, 0, 0, 4096);
-    show(b", remove first", remove(&mut b, 1, 0, 1));
-    show(b", clear", clear(&mut b, 0));
-    text(b"\n");
+    rt.print("chain of 4096 into version 1:")?;
+    calls(rt, &mut b, 1, 0, 0, 4096)?;
+    show(rt, ", remove first", remove(&mut b, 1, 0, 1))?;
+    show(rt, ", clear", clear(&mut b, 0))?;
+    rt.print("\n")
 }
 
 // The insert of an equal last key makes a node for each of a chain's: 2,047 are free, then 2,048.
-fn half_chain() {
+fn half_chain(rt: &impl Print) -> io::Result<()> {
     let mut b = [0u32; 32913];
     chain(&mut b, 2048);
     insert(&mut b, 1, 1, 1, 1);
     show(
-        b"chain of 2048: insert equal, one fewer free",
+        rt,
+        "chain of 2048: insert equal, one fewer free",
         insert(&mut b, 2, 0, 2048, 1),
-    );
+    )?;
     clear(&mut b, 1);
-    show(b", exact room", insert(&mut b, 2, 0, 2048, 1));
-    text(b"\n");
+    show(rt, ", exact room", insert(&mut b, 2, 0, 2048, 1))?;
+    rt.print("\n")
 }
 
 // Node i + 1 of a left chain of the keys n down to 1, one minute each, at N = 96.
@@ -224,7 +232,7 @@ fn left_link(b: &mut [u32], i: u32, n: u32)
 }
 
 // Version 0 of N = 96 becomes a left chain of 64 and `more` nodes, by hand, and is listed against empty.
-fn left_chain(more: u32)
+fn left_chain(rt: &impl Print, more: u32) -> io::Result<()>
     requires { more ≤ 1 }
 {
     let mut b = [0u32; 788];
@@ -240,109 +248,111 @@ fn left_chain(more: u32)
         i += 1;
     }
     let r = list(&b, 0, 15, 0, &mut out);
-    text(b" ");
-    io::print_decimal(1, r.number as u64);
-    text(b" of ");
-    io::print_decimal(1, r.total as u64);
+    let number = r.number;
+    let total = r.total;
+    print!(rt; " {number} of {total}")
 }
 
-fn deepest() {
-    text(b"case 9: left chain of 64:");
-    left_chain(0);
-    text(b", of 65:");
-    left_chain(1);
-    text(b"\n");
+fn deepest(rt: &impl Print) -> io::Result<()> {
+    rt.print("case 9: left chain of 64:")?;
+    left_chain(rt, 0)?;
+    rt.print(", of 65:")?;
+    left_chain(rt, 1)?;
+    rt.print("\n")
 }
 
 // What was asked, the number that the call gave back and the minutes.
-fn minutes(s: &[u8], m: Minutes) {
-    text(s);
-    text(b" ");
-    io::print_decimal(1, m.number as u64);
-    text(b":");
-    io::print_decimal(1, m.minutes);
+fn minutes(rt: &impl Print, s: &str, m: Minutes) -> io::Result<()> {
+    let number = m.number;
+    let minutes = m.minutes;
+    print!(rt; "{s} {number}:{minutes}")
 }
 
-fn chain_asked(b: &[u32]) {
-    minutes(b"held: chain of 4096", held(b, 0));
-    minutes(b", 10 to 20", held_between(b, 0, 10, 20));
-    minutes(b", 20 to 10", held_between(b, 0, 20, 10));
-    minutes(b", 4096 on", held_between(b, 0, 4096, 4294967295));
-    minutes(b", of version 15", held(b, 15));
-    minutes(b", of version 16", held(b, 16));
-    text(b"\n");
+fn chain_asked(rt: &impl Print, b: &[u32]) -> io::Result<()> {
+    minutes(rt, "held: chain of 4096", held(b, 0))?;
+    minutes(rt, ", 10 to 20", held_between(b, 0, 10, 20))?;
+    minutes(rt, ", 20 to 10", held_between(b, 0, 20, 10))?;
+    minutes(rt, ", 4096 on", held_between(b, 0, 4096, 4294967295))?;
+    minutes(rt, ", of version 15", held(b, 15))?;
+    minutes(rt, ", of version 16", held(b, 16))?;
+    rt.print("\n")
 }
 
 // Each entry of a chain holds one minute.
-fn chain_sums() {
+fn chain_sums(rt: &impl Print) -> io::Result<()> {
     let mut b = [0u32; 32913];
     chain(&mut b, 4096);
-    chain_asked(&b);
+    chain_asked(rt, &b)
 }
 
 // Two values that together pass a word. Then the high word of the root's sum is changed: node 1 is the root, and its words begin at 18.
-fn long_sums() {
+fn long_sums(rt: &impl Print) -> io::Result<()> {
     let mut b = [0u32; 274];
     fresh(&mut b, 32);
     insert(&mut b, 0, 0, 0, 4294967295);
     insert(&mut b, 1, 0, 4294967295, 4294967295);
-    minutes(b"held: twice the largest value", held(&b, 1));
-    minutes(b", the first", held_between(&b, 1, 0, 0));
-    minutes(b", the last", held_between(&b, 1, 4294967295, 4294967295));
-    minutes(b", between", held_between(&b, 1, 1, 4294967294));
+    minutes(rt, "held: twice the largest value", held(&b, 1))?;
+    minutes(rt, ", the first", held_between(&b, 1, 0, 0))?;
+    minutes(
+        rt,
+        ", the last",
+        held_between(&b, 1, 4294967295, 4294967295),
+    )?;
+    minutes(rt, ", between", held_between(&b, 1, 1, 4294967294))?;
     put(&mut b, 25, 1);
-    minutes(b", damaged", held(&b, 1));
-    text(b"\n");
+    minutes(rt, ", damaged", held(&b, 1))?;
+    rt.print("\n")
 }
 
-fn said(line: &[u8]) {
+fn said(rt: &impl Print, line: &[u8]) -> io::Result<()> {
     let a = parse(line);
-    text(b" ");
-    io::print_decimal(1, a.number as u64);
-    if a.number == 10 {
-        text(b" at ");
-        io::print_decimal(1, a.place as u64);
+    let number = a.number;
+    print!(rt; " {number}")?;
+    if number == 10 {
+        let place = a.place;
+        print!(rt; " at {place}")?;
     }
+    Ok(())
 }
 
-fn digits() {
-    text(b"case 11: 34 digits");
-    said(b"000000070000000101000000030000001f\n");
-    text(b", 33 digits");
-    said(b"00000007000000010100000003000001f\n");
-    text(b"\n");
+fn digits(rt: &impl Print) -> io::Result<()> {
+    rt.print("case 11: 34 digits")?;
+    said(rt, b"000000070000000101000000030000001f\n")?;
+    rt.print(", 33 digits")?;
+    said(rt, b"00000007000000010100000003000001f\n")?;
+    rt.print("\n")
 }
 
 // The examples of docs/LINES.md, in its order.
-fn faults() {
-    text(b"lines:");
-    said(b"00000007000000010100000003000001f\n");
-    said(b"000000070000000101000000030000001f\r\n");
-    said(b"000000070000000101000000030000001f");
-    said(b"000000070000000101000000030000001F\n");
-    said(b"00000007000o0001010000000300000o1f\n");
-    said(b"000000070000000103000000030000001f\n");
-    said(b"000000070001000101000000030000001f\n");
-    said(b"000000070000000001000000030000001f\n");
-    said(b"000000070000100101000000030000001f\n");
-    said(b"000000070000000102000000030000001f\n");
-    said(b"0000000700000001000000000300000000\n");
-    said(b"00000007000000000300000003000000XX\n");
-    said(b"000000070000000003000000030000001f\n");
-    text(b"\n");
+fn faults(rt: &impl Print) -> io::Result<()> {
+    rt.print("lines:")?;
+    said(rt, b"00000007000000010100000003000001f\n")?;
+    said(rt, b"000000070000000101000000030000001f\r\n")?;
+    said(rt, b"000000070000000101000000030000001f")?;
+    said(rt, b"000000070000000101000000030000001F\n")?;
+    said(rt, b"00000007000o0001010000000300000o1f\n")?;
+    said(rt, b"000000070000000103000000030000001f\n")?;
+    said(rt, b"000000070001000101000000030000001f\n")?;
+    said(rt, b"000000070000000001000000030000001f\n")?;
+    said(rt, b"000000070000100101000000030000001f\n")?;
+    said(rt, b"000000070000000102000000030000001f\n")?;
+    said(rt, b"0000000700000001000000000300000000\n")?;
+    said(rt, b"00000007000000000300000003000000XX\n")?;
+    said(rt, b"000000070000000003000000030000001f\n")?;
+    rt.print("\n")
 }
 
-fn main() {
-    deepest();
-    exact_room();
-    known_versions();
-    largest();
-    digits();
-    faults();
-    known_rules();
-    zeros();
-    full_chain();
-    half_chain();
-    chain_sums();
-    long_sums();
+fn main(rt: HostRuntime) -> io::Result<()> {
+    deepest(&rt)?;
+    exact_room(&rt)?;
+    known_versions(&rt)?;
+    largest(&rt)?;
+    digits(&rt)?;
+    faults(&rt)?;
+    known_rules(&rt)?;
+    zeros(&rt)?;
+    full_chain(&rt)?;
+    half_chain(&rt)?;
+    chain_sums(&rt)?;
+    long_sums(&rt)
 }

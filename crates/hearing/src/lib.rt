@@ -1,4 +1,6 @@
-// What the standby's programs begin with: the lines on standard input are heard into version 0 of a fresh block.
+// What the standby's programs begin with: the lines on an input, for them standard input, are heard into version 0 of a fresh block.
+#![tactic(auto)]
+
 ghost use Rattle.std.specs.Prelude.{◌≡◌, ℕ, ◌≤◌, List, [], ◌∷◌, ◌++◌, length, take};
 ghost use Rattle.model.specs.Inbox.{begun};
 ghost use Rattle.model.specs.Calls.{fresh_block};
@@ -6,6 +8,7 @@ ghost use Rattle.hearing.specs.Lines.{Keeps, Runs, state, Fed, FedSome, HearsSom
 
 use inbox::begin;
 use link::parse;
+use std::io::Read;
 
 const NEWLINE: u8 = 10;
 
@@ -86,29 +89,33 @@ fn feed(b: &mut [u32], x: &mut [u32], line: &mut [u8; 36], from: Progress, bytes
     }
 }
 
-// One read, and its bytes fed on.
-fn read_once(b: &mut [u32], x: &mut [u32], line: &mut [u8; 36], from: Progress) -> Turn
+// One read, and its bytes fed on. A read that fails ends the input, as its end does: what was heard before it stands.
+fn read_once<R: Read>(
+    input: &mut R,
+    b: &mut [u32],
+    x: &mut [u32],
+    line: &mut [u8; 36],
+    from: Progress,
+) -> Turn
     requires { (length x.old ≡ 130) × (from.len ≤ 36) }
     ensures len_bound { result.progress.len ≤ 36 }
     ensures fed_some { FedSome (state b.old x.old line.old from) (state b.new x.new line.new result.progress) }
 {
-    let mut buffer = io::large_buffer();
-    let got = libc::read(0, &mut buffer);
-    if got <= 0 {
-        return Turn {
+    let mut buffer = [0u8; 65536];
+    match input.read(&mut buffer) {
+        Ok(0) | Err(_) => Turn {
             progress: from,
             more: false,
-        };
-    }
-    let n = io::count(got, &buffer);
-    Turn {
-        progress: feed(b, x, line, from, &buffer[..n]),
-        more: true,
+        },
+        Ok(n) => Turn {
+            progress: feed(b, x, line, from, &buffer[..n]),
+            more: true,
+        },
     }
 }
 
-// Nothing says that the input ends, so the turns are counted down from the largest number there is.
-fn read_all(b: &mut [u32], x: &mut [u32])
+// Nothing says that the input ends, so the reads are counted, up to the largest number there is.
+fn read_all<R: Read>(input: &mut R, b: &mut [u32], x: &mut [u32])
     requires { length x.old ≡ 130 }
     ensures { HearsSome b.old x.old b.new x.new }
 {
@@ -117,23 +124,21 @@ fn read_all(b: &mut [u32], x: &mut [u32])
         len: 0,
         begun: false,
     };
-    let mut turns = u64::MAX;
-    while 0 < turns {
-        let turn = read_once(b, x, &mut line, progress);
+    for _ in 0..u64::MAX {
+        let turn = read_once(input, b, x, &mut line, progress);
         if !turn.more {
             return;
         }
         progress = turn.progress;
-        turns -= 1;
     }
 }
 
 // From a fresh block for 2,016 nodes and an inbox that has heard nothing.
-pub fn hear_input(b: &mut [u32], x: &mut [u32])
+pub fn hear_input<R: Read>(input: &mut R, b: &mut [u32], x: &mut [u32])
     requires { (length b.old ≡ 16208) × (length x.old ≡ 130) }
     ensures { HearsSome (fresh_block 2016) (begun 0) b.new x.new }
 {
     table::fresh(b, 2016);
     begin(x, 0);
-    read_all(b, x);
+    read_all(input, b, x);
 }

@@ -1,4 +1,6 @@
 // The receiving program: the lines on standard input are heard into version 0 of an empty block; its entries are printed, then how many frames are missing.
+#![tactic(auto)]
+
 ghost use Rattle.std.specs.Prelude.{◌≡◌, ◌+◌, ◌*◌, ◌≤◌, ◌++◌, length, take};
 ghost use Rattle.model.specs.Tree.{entries};
 ghost use Rattle.model.specs.Heap.{Named, Linked, size_at, tree};
@@ -11,6 +13,8 @@ use block::{read, root};
 use frame::put_hex;
 use hearing::hear_input;
 use inbox::question;
+use std::io;
+use std::io::{Read, Write};
 
 const NEWLINE: u8 = 10;
 
@@ -49,19 +53,19 @@ fn write_text(b: &[u32], x: &[u32], out: &mut [u8]) -> usize
     at + 9
 }
 
-// All that the program does but for the write at its end: from a fresh block and an inbox that has heard nothing, the text after the lines on standard input.
-fn report(b: &mut [u32], x: &mut [u32], out: &mut [u8]) -> usize
+// All that the program does but for the write at its end: from a fresh block and an inbox that has heard nothing, the text after the lines on its input.
+fn report<R: Read>(input: &mut R, b: &mut [u32], x: &mut [u32], out: &mut [u8]) -> usize
     requires { (length b.old ≡ 16208) × (length x.old ≡ 130) × (length out.old ≡ 34281) }
     ensures { (result ≤ 34281) × Reports (take result out.new) }
 {
-    hear_input(b, x);
+    hear_input(input, b, x);
     write_text(b, x, out)
 }
 
-fn main() {
+fn main(rt: HostRuntime) -> io::Result<()> {
     let mut b = [0u32; 16208];
     let mut x = [0u32; 130];
     let mut out = [0u8; 34281];
-    let n = report(&mut b, &mut x, &mut out);
-    io::write_all(1, &out[0..n]);
+    let n = report(&mut rt.stdin(), &mut b, &mut x, &mut out);
+    rt.stdout().write_all(&out[0..n])
 }

@@ -1,7 +1,7 @@
 // A call to a line: six decimal numbers with one blank between two of them.
 
 // One call; a field that the call does not have is not looked at.
-#[derive(Drop)]
+#[derive(Clone, Copy)]
 pub struct Line {
     pub call: u32,
     pub dest: u32,

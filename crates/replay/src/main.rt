@@ -4,15 +4,21 @@
 // An answer is the call's name and: a value or a dash; a size; a listing's rows, key:left:right with a dash for no right;
 // and after an edit the destination's tree as the original has it, key:value:size, top first and left before right.
 // What agrees: answers, shapes and listings. Six versions of at most 48 keys have room at N = 2,016, so nothing is refused.
+#![tactic(auto)]
+
 mod calls;
 mod lines;
 mod trees;
 
+ghost use Rattle.std.specs.Prelude.{◌≤◌, length};
+
 use calls::perform;
 use lines::{DONE, UNFIT, line_of, take};
+use std::io;
+use std::io::Read;
 
 // Does the calls of a text, up to the first byte that fits no line.
-fn replay(b: &mut [u32], text: &[u8]) {
+fn replay(rt: &impl Print, b: &mut [u32], text: &[u8]) -> io::Result<()> {
     let mut fields = [0u32; 6];
     let mut at = 0usize;
     let mut i = 0usize;
@@ -20,21 +26,36 @@ fn replay(b: &mut [u32], text: &[u8]) {
         at = take(&mut fields, at, text[i]);
         i += 1;
         if at == UNFIT {
-            return;
+            return Ok(());
         }
         if at == DONE {
-            perform(b, line_of(&fields));
+            perform(rt, b, line_of(&fields))?;
             fields = [0u32; 6];
             at = 0;
         }
     }
+    Ok(())
+}
+
+// Fills the buffer from its start, up to the end of the input or a read that fails: how many bytes there are.
+fn read_full<R: Read>(input: &mut R, buffer: &mut [u8]) -> usize
+    ensures { result ≤ length buffer.new }
+{
+    let mut done = 0usize;
+    while done < buffer.len() {
+        match input.read(&mut buffer[done..]) {
+            Ok(0) | Err(_) => return done,
+            Ok(n) => done += n,
+        }
+    }
+    done
 }
 
 // A sample longer than the buffer would be cut, and the comparison would show it.
-fn main() {
+fn main(rt: HostRuntime) -> io::Result<()> {
     let mut b = [0u32; 16208];
     table::fresh(&mut b, 2016);
-    let mut input = io::large_buffer();
-    let n = io::read_full(0, &mut input);
-    replay(&mut b, &input[..n]);
+    let mut input = [0u8; 65536];
+    let n = read_full(&mut rt.stdin(), &mut input);
+    replay(&rt, &mut b, &input[..n])
 }

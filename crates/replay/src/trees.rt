@@ -1,20 +1,14 @@
 // Prints numbers and trees.
 ghost use Rattle.std.specs.Prelude.{◌<◌};
 
-pub fn text(s: &[u8]) {
-    io::write_all(1, s);
-}
-
-pub fn decimal(x: u32) {
-    io::print_decimal(1, x as u64);
-}
+use std::io;
 
 // A value, or a dash for none.
-pub fn or_dash(found: u32, value: u32) {
+pub fn or_dash(rt: &impl Print, found: u32, value: u32) -> io::Result<()> {
     if found == 0 {
-        text(b"-");
+        rt.print("-")
     } else {
-        decimal(value);
+        rt.print(value)
     }
 }
 
@@ -34,29 +28,27 @@ fn node_word(b: &[u32], n: u32, j: usize) -> u32
 }
 
 // Key, value and size.
-fn node(b: &[u32], n: u32) {
-    text(b" ");
-    decimal(node_word(b, n, 0));
-    text(b":");
-    decimal(node_word(b, n, 1));
-    text(b":");
-    decimal(node_word(b, n, 4));
+fn node(rt: &impl Print, b: &[u32], n: u32) -> io::Result<()> {
+    let key = node_word(b, n, 0);
+    let value = node_word(b, n, 1);
+    let size = node_word(b, n, 4);
+    print!(rt; " {key}:{value}:{size}")
 }
 
 // The tree below n, top first and left before right: with keys in order this fixes the shape.
-fn below(b: &[u32], n: u32, levels: u32) {
+fn below(rt: &impl Print, b: &[u32], n: u32, levels: u32) -> io::Result<()> {
     if n == 0 {
-        return;
+        return Ok(());
     }
     if levels == 0 {
-        return;
+        return Ok(());
     }
-    node(b, n);
-    below(b, node_word(b, n, 2), levels - 1);
-    below(b, node_word(b, n, 3), levels - 1);
+    node(rt, b, n)?;
+    below(rt, b, node_word(b, n, 2), levels - 1)?;
+    below(rt, b, node_word(b, n, 3), levels - 1)
 }
 
 // A version's tree. No tree of the sample has 64 levels; what lies deeper would be missing from the print.
-pub fn tree(b: &[u32], version: u32) {
-    below(b, word(b, 1 + version as usize), 64);
+pub fn tree(rt: &impl Print, b: &[u32], version: u32) -> io::Result<()> {
+    below(rt, b, word(b, 1 + version as usize), 64)
 }
