@@ -12,7 +12,8 @@ def read(text):
         if row.startswith("#"):
             groups.append((row.lstrip("# "), []))
         elif row.strip():
-            crate, _, others = row.partition(":")
+            head, _, others = row.partition(":")
+            crate = head.split()[0]  # what stands behind it is its kind: staticlib
             imports[crate] = others.split()
             groups[-1][1].append(crate)
     return {crate: [other for other in others if other in imports] for crate, others in imports.items()}, groups
