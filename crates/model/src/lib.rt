@@ -2,5 +2,3 @@
 #![tactic(auto)]
 
 pub const WIDTH: usize = 8;
-
-pub const WIDTH_U32: u32 = 8;
