@@ -1,7 +1,7 @@
 -- Words of the area as code finds them, and what a link says.
-use mathlib.Core.Path.{◌≡◌, refl, ap, sym, ◌∙◌}
+use mathlib.Core.Path.{◌≡◌, refl, sym, ◌∙◌}
 use mathlib.Core.Logic.{◌≢◌}
-use Prim.Native.Nat.{ℕ, zero, suc, ◌+◌, ◌-◌, ◌*◌, ◌≤◌, ◌<◌}
+use Prim.Native.Nat.{ℕ, zero, suc, ◌+◌, ◌*◌, ◌≤◌, ◌<◌}
 use mathlib.Core.Bool.{false, true≢false}
 use mathlib.Core.List.{List, [], ◌∷◌}
 use lib.ListN.{length, get_or}
@@ -17,10 +17,6 @@ pub get_d_past : (l : List ℕ) (i : ℕ) → length l ≤ i → get_or l i 0 �
 get_d_past [] i h = refl
 get_d_past (x ∷ l) zero h = absurd (omega arith)
 get_d_past (x ∷ l) (suc i) h = get_d_past l i (omega arith)
-
-pub area_word_at : (a : List ℕ) (j i : ℕ) → 1 ≤ i → area_word a j i ≡ get_or a (width * i - width + j) 0
-area_word_at a j zero p = absurd (omega arith)
-area_word_at a j (suc i) p = ap (λ k. get_or a k 0) (omega arith)
 
 module _ (a : List ℕ) where
   pub live : (x c : ℕ) → c ≡ area_word a 5 x → c ≢ 0 → Occupied (area a) x

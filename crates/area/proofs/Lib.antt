@@ -6,5 +6,6 @@ pub mod Bounding
 pub mod Spans
 pub mod BySize
 pub mod Taking
-pub mod Inner
 pub mod Passing
+pub mod Inner
+pub mod Moving

@@ -1,32 +1,26 @@
 // Runs of zeros. One `|` a word and no test: of that LLVM makes vectors.
-ghost use Rattle.std.specs.Prelude.{◌+◌, ◌≤◌, length};
+// Words and half words have a function each: one for both takes a trait of two methods and an impl for each, which is longer.
 ghost use Rattle.model.specs.Tells.{Tells};
-ghost use Rattle.area.specs.Notes.{Zeros};
+ghost use Rattle.area.specs.Notes.{AllZero};
 
-// Whether the k words of a from place `from` on are zeros.
-pub fn zeros(a: &[u32], from: usize, k: usize) -> bool
-    requires { from + k ≤ length a.now }
-    ensures { Tells result (Zeros a.now from k) }
+/// Whether the words are all 0.
+pub fn zeros(words: &[u32]) -> bool
+    ensures { Tells result (AllZero words.now) }
 {
-    let mut z = 0;
-    let mut i = 0;
-    while i < k {
-        z = z | a[from + i];
-        i += 1;
+    let mut any = 0;
+    for word in words {
+        any |= *word;
     }
-    z == 0
+    any == 0
 }
 
-// The same of half words.
-pub fn zeros_half(a: &[u16], from: usize, k: usize) -> bool
-    requires { from + k ≤ length a.now }
-    ensures { Tells result (Zeros a.now from k) }
+/// The same of half words.
+pub fn zeros_half(halves: &[u16]) -> bool
+    ensures { Tells result (AllZero halves.now) }
 {
-    let mut z = 0;
-    let mut i = 0;
-    while i < k {
-        z = z | a[from + i];
-        i += 1;
+    let mut any = 0;
+    for half in halves {
+        any |= *half;
     }
-    z == 0
+    any == 0
 }

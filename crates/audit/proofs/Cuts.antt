@@ -1,13 +1,12 @@
 -- The block up to its last occupied node.
 use mathlib.Core.Path.{◌≡◌, refl, sym, ap, ◌∙◌}
-use Prim.Native.Nat.{ℕ, zero, suc, ◌+◌, ◌-◌, ◌*◌, ◌/◌, ◌%◌, ◌^◌, ◌≤◌, ◌<◌}
+use Prim.Native.Nat.{ℕ, zero, suc, ◌+◌, ◌-◌, ◌*◌, ◌/◌, ◌%◌, ◌≤◌, ◌<◌}
 use mathlib.Core.Bool.{Bool, false}
 use mathlib.Core.List.{List}
-use lib.ListN.{length, get_or, drop, take, length-drop, length-take}
-use lib.Seq.{get_or-drop, get_or-take, take_all}
+use lib.ListN.{length, get_or, take, length-drop, length-take}
+use lib.Seq.{get_or-drop, get_or-take}
 use borrow.Author.Tests.{le-ltb}
 use native.Mathlib.Omega.{arith}
-use native.Mathlib.Nat.{le_of_eq}
 use native.Mathlib.Decide.{dec_lt}
 use Rattle.model.specs.Heap.{Blank, Sound}
 use Rattle.model.specs.Block.{word, room, width, node_word, occupied_at, heap, Shaped, SoundBlock}
@@ -81,7 +80,3 @@ cut_tells b a n C r = tells_map r
 
     beyond : (i : ℕ) → n < i → Blank (heap b) i
     beyond i p = record { key = zero_word 0 i p; value = zero_word 1 i p; left = zero_word 2 i p; right = zero_word 3 i p; size = zero_word 4 i p; count = zero_word 5 i p; sum = omega (arith, zero_word 6 i p, zero_word 7 i p) }
-
--- the part that code takes
-pub part_is : (b : List ℕ) (n : ℕ) → n ≡ room b → take (length b - (17 + n / 32)) (drop (17 + n / 32) b) ≡ nodes_of b
-part_is b n e = take_all (length b - (17 + n / 32)) (drop (17 + n / 32) b) (le_of_eq (length-drop (17 + n / 32) b)) ∙ ap (λ k. drop (17 + k / 32) b) e

@@ -15,7 +15,7 @@ use Rattle.model.specs.Tells.{Tells}
 use Rattle.area.specs.Area.{area}
 use Rattle.area.specs.Notes.{Zeros, Fair}
 use Rattle.model.proofs.block.Bits.{word-free}
-use Rattle.model.proofs.maps.Tells.{tells_map, each_more, each_join}
+use Rattle.model.proofs.maps.Tells.{tells_map, each_more}
 use Rattle.audit.specs.Whole.{MarkOk, MarksOk}
 
 -- the two sorts of nodes
@@ -27,10 +27,6 @@ module _ (a : List ℕ) (i m : ℕ) (r : Bool) where
   mark_free e = tells_map r
       (λ Z. record { fair = λ z. absurd (true≢false (sym z ∙ ne_eqb m 1 e)); zeros = λ _. rw (add-one i) Z })
       (λ M. rw (add-one i) at (M.zeros (ne_eqb m 1 e)))
-
--- the nodes of one occupancy word more
-pub words_more : (b a : List ℕ) (w : ℕ) → MarksOk b a 0 (32 * w) → MarksOk b a (32 * w) (32 * w + 32) → MarksOk b a 0 (32 * (w + 1))
-words_more b a w C D = let e : 32 * w + 32 ≡ 32 * (w + 1) = omega arith in subst (MarksOk b a 0) e (each_join 0 (32 * w) (32 * w + 32) (λ i. MarkOk a (occupied_at b i) i) C D)
 
 -- bit j of occupancy word w is that of node 32w + j + 1
 module _ (b a : List ℕ) (w j m : ℕ) (lt : j < 32) (in_room : 32 * w + j < room b) (e : m ≡ word b (17 + w) / 2 ^ j) where

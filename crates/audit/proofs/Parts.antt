@@ -9,7 +9,7 @@ use native.Mathlib.Omega.{arith}
 use native.Mathlib.Decide.{ℕ_discrete, dec_lt}
 use Rattle.model.specs.Tree.{Ordered}
 use Rattle.model.specs.Heap.{Heap, Occupied, Named, size_at, sum_at, load, tree, refs, Linked, Kept, Sound}
-use Rattle.model.specs.Block.{word, room, width, two_words, occupied_at, heap}
+use Rattle.model.specs.Block.{word, width, two_words, occupied_at, heap}
 use Rattle.model.proofs.running.Steps.{refs_unoccupied}
 use Rattle.model.specs.Tells.{Each}
 use Rattle.area.specs.Area.{area_word, area, AreaOk}

@@ -1,5 +1,5 @@
 -- Roots counted one after another.
-use mathlib.Core.Path.{◌≡◌, ap, sym, ◌∙◌}
+use mathlib.Core.Path.{◌≡◌, ap, sym}
 use mathlib.Core.Logic.{◌≢◌}
 use Prim.Native.Nat.{ℕ, zero, suc, ◌+◌, ◌-◌, ◌≤◌, ◌<◌}
 use mathlib.Core.List.{List}
@@ -55,9 +55,6 @@ module _ (b : List ℕ) (n : ℕ) (t : List ℕ) where
         go z (yes q) = omega (arith, T.enough, ap (λ y. get_or u y 0) q)
         go z (no q) = omega (arith, R.fits x (omega arith), T.taken x (omega arith), more x, hit_yes (word b (1 + v)) x (sym e))
 
-  pub taking_all : (u : List ℕ) (v : ℕ) → v ≡ 16 → Taking b n t u v → RootsOk b n t 16 × RootsTaken b t u 16
-  taking_all u v e T = let S : Taking b n t u 16 = rw e at T in (record { within = S.within; fits = λ y p. omega (arith, S.taken y p) }, S.taken)
-
 -- place 0 is filled up before
 module _ (b : List ℕ) (n : ℕ) (t : List ℕ) where
   kept : (y : ℕ) → 1 ≤ y → get_or (set t 0 16) y 0 ≡ get_or t y 0
@@ -68,9 +65,3 @@ module _ (b : List ℕ) (n : ℕ) (t : List ℕ) where
 
   pub roots_filled : RootsOk b n t 16 → RootsOk b n (set t 0 16) 16
   roots_filled R = record { within = R.within; fits = λ y p. omega (arith, R.fits y p, kept y p) }
-
-  pub roots_unfilled : RootsOk b n (set t 0 16) 16 → RootsOk b n t 16
-  roots_unfilled R = record { within = R.within; fits = λ y p. omega (arith, R.fits y p, kept y p) }
-
-  pub taken_unfilled : (u : List ℕ) → RootsTaken b (set t 0 16) u 16 → RootsTaken b t u 16
-  taken_unfilled u T y p = T y p ∙ kept y p

@@ -52,10 +52,6 @@ pub record RootsOk (b : List ℕ) (n : ℕ) (t : List ℕ) (k : ℕ) : Type 0 wh
 abbrev pub RootsTaken : List ℕ → List ℕ → List ℕ → ℕ → Type 0
 RootsTaken b t u k = (y : ℕ) → 1 ≤ y → get_or u y 0 + hits (λ v. word b (1 + v)) y k ≡ get_or t y 0
 
--- a list of zeros
-abbrev pub AllZero : List ℕ → Type 0
-AllZero t = (x : ℕ) → get_or t x 0 ≡ 0
-
 -- after the first pass and the roots: every node is fair or zeros and noted, and in t its count is less by the roots that name it
 pub record Begun (b a : List ℕ) (n : ℕ) (lo sn hd t : List ℕ) : Type 0 where
   pub marks : MarksOk b a 0 n

@@ -3,41 +3,27 @@
 
 ghost use Rattle.model.specs.Block.{Shaped, SoundBlock};
 ghost use Rattle.model.specs.Tells.{Tells};
-ghost use Rattle.model.specs.Calls.{Fitting, Checked, Fresh, refusal};
+ghost use Rattle.model.specs.Calls.{Fitting, Checked, Fresh};
+ghost use Rattle.answers.specs.Numbers.{code};
+ghost use Rattle.answers.specs.Answers.{done_of};
 
-use area::words::wide;
+use answers::Refusal;
 use model::WIDTH;
 
 mod whole;
-
-const SHAPE: u32 = 1;
-
-const DAMAGED: u32 = 2;
 
 // Whether n may be N and a block of N = n has this many words.
 fn fits(words: usize, n: usize) -> bool
     ensures { Tells result (Fitting words n) }
 {
-    if n < 32 {
-        return false;
-    }
-    if 4096 < n {
-        return false;
-    }
-    if n % 32 != 0 {
-        return false;
-    }
-    words == 17 + n / 32 + WIDTH * n
+    32 <= n && n <= 4096 && n % 32 == 0 && words == 17 + n / 32 + WIDTH * n
 }
 
 // Whether length and N are right; a block of no words has no N.
 pub fn shape(b: &[u32]) -> bool
     ensures { Tells result (Shaped b.now) }
 {
-    if b.len() == 0 {
-        return false;
-    }
-    fits(b.len(), wide(b[0]))
+    !b.is_empty() && fits(b.len(), b[0] as usize)
 }
 
 // Whether the block is sound.
@@ -47,36 +33,32 @@ pub fn audit(b: &[u32]) -> bool
     if !shape(b) {
         return false;
     }
-    let n = wide(b[0]);
+    let n = b[0] as usize;
     let start = 17 + n / 32;
     whole::whole_ok(b, &b[start..], n)
 }
 
-// The number that a call gives back before it looks at anything but the block.
-pub fn check(b: &[u32]) -> u32
-    ensures { Checked b.now result }
+// What refuses a call before it looks at anything but the block. Inbox and kiosk have a check each: one for all would take both tests with their contracts, and is no shorter.
+pub fn check(b: &[u32]) -> Result<(), Refusal>
+    ensures { Checked b.now (code result) }
 {
     if !shape(b) {
-        return SHAPE;
+        return Err(Refusal::Shape);
     }
     if !audit(b) {
-        return DAMAGED;
+        return Err(Refusal::Damaged);
     }
-    0
+    Ok(())
 }
 
-// A block of N = n with sixteen empty versions. The answer has no field but its number.
-pub fn fresh(b: &mut [u32], n: u32) -> u32
-    ensures { Fresh b.old b.new n (refusal result) }
+// A block of N = n with sixteen empty versions.
+pub fn fresh(b: &mut [u32], n: u32) -> Result<(), Refusal>
+    ensures { Fresh b.old b.new n (done_of result) }
 {
-    if !fits(b.len(), wide(n)) {
-        return SHAPE;
+    if !fits(b.len(), n as usize) {
+        return Err(Refusal::Shape);
     }
     b[0] = n;
-    let mut i = 1;
-    while i < b.len() {
-        b[i] = 0;
-        i += 1;
-    }
-    0
+    b[1..].fill(0);
+    Ok(())
 }

@@ -3,102 +3,64 @@ ghost use Rattle.std.specs.Prelude.{◌≡◌, true, ℕ, ◌+◌, ◌*◌, ◌/
 ghost use Rattle.model.specs.Heap.{Sound};
 ghost use Rattle.model.specs.Block.{word, room, width, heap, Shaped, SoundBlock};
 ghost use Rattle.model.specs.Tells.{Tells};
-ghost use Rattle.area.specs.Notes.{Arrays, Noted};
+ghost use Rattle.area.specs.Area.{area};
+ghost use Rattle.area.specs.Notes.{Holds};
 ghost use Rattle.area.specs.Turns.{Goes};
-ghost use Rattle.audit.specs.Whole.{nodes_of, up_to, Cut, MarkOk, MarksOk, RootsOk, RootsTaken, AllZero, Begun};
+ghost use Rattle.audit.specs.Whole.{nodes_of, up_to, Cut, MarkOk, MarksOk, RootsOk, RootsTaken, Begun};
 
-use area::notes::note;
-use area::trees::trees_ok;
-use area::words::{take, wide};
+// The block b, its node area a and the number of nodes n go together: in a struct each clause would say part.now.block.now for b.now, which is no plainer.
+use area::notes::Notes;
+use area::words::take;
 use area::zeros::{zeros, zeros_half};
 use model::WIDTH;
 
 // Node i + 1, whose occupancy bit is m: noted, or zeros.
 #[tactic(auto, using(crate::proofs::Marks::mark_live))]
-fn node_ok(
-    a: &[u32],
-    n: usize,
-    i: usize,
-    m: usize,
-    lo: &mut [u32],
-    sn: &mut [u32],
-    hd: &mut [u16],
-    t: &mut [u16],
-) -> bool
-    requires { (length a.now ≡ width * n) × (i < n) × Arrays n lo.old sn.old hd.old t.old × Noted a.now lo.old sn.old hd.old t.old i × (m < 2) }
-    ensures { Tells result (MarkOk a.now (eqb m 1) (i + 1)) × (result ≡ true → Noted a.now lo.new sn.new hd.new t.new (i + 1)) }
+fn node_ok<const N: usize>(a: &[u32], i: usize, m: usize, notes: &mut Notes<N>) -> bool
+    requires { (i < (area a.now).room) × ((area a.now).room ≤ 4096) × ((area a.now).room + 8 < N) × Holds a.now notes.old i × (m < 2) }
+    ensures { Tells result (MarkOk a.now (eqb m 1) (i + 1)) × (result ≡ true → Holds a.now notes.new (i + 1)) }
 {
     if m == 1 {
-        return note(a, n, i, lo, sn, hd, t);
+        return notes.note(a, i);
     }
-    zeros(a, WIDTH * i, WIDTH)
+    zeros(&a[WIDTH * i..WIDTH * i + WIDTH])
 }
 
 // The 32 nodes of occupancy word w, whose bits come up one after another.
-fn bits_ok(
-    b: &[u32],
-    a: &[u32],
-    n: usize,
-    w: usize,
-    lo: &mut [u32],
-    sn: &mut [u32],
-    hd: &mut [u16],
-    t: &mut [u16],
-) -> bool
-    requires { Shaped b.now × (n ≤ room b.now) × (length a.now ≡ width * n) × (w < n / 32) × Arrays n lo.old sn.old hd.old t.old × Noted a.now lo.old sn.old hd.old t.old (32 * w) }
-    ensures { Tells result (MarksOk b.now a.now (32 * w) (32 * w + 32)) × (result ≡ true → Noted a.now lo.new sn.new hd.new t.new (32 * w + 32)) }
+fn bits_ok<const N: usize>(b: &[u32], a: &[u32], n: usize, w: usize, notes: &mut Notes<N>) -> bool
+    requires { Cut b.now a.now n × (w < n / 32) × (n + 8 < N) × Holds a.now notes.old (32 * w) }
+    ensures { Tells result (MarksOk b.now a.now (32 * w) (32 * w + 32)) × (result ≡ true → Holds a.now notes.new (32 * w + 32)) }
 {
-    let mut m = wide(b[17 + w]);
-    let mut j = 0;
-    while j < 32 {
-        if !node_ok(a, n, 32 * w + j, m % 2, lo, sn, hd, t) {
+    let mut m = b[17 + w] as usize;
+    for j in 0..32 {
+        if !node_ok(a, 32 * w + j, m % 2, notes) {
             return false;
         }
-        m = m / 2;
-        j += 1;
+        m /= 2;
     }
     true
 }
 
 // The same; where none of the 32 is occupied all their words are zeros.
-fn word_ok(
-    b: &[u32],
-    a: &[u32],
-    n: usize,
-    w: usize,
-    lo: &mut [u32],
-    sn: &mut [u32],
-    hd: &mut [u16],
-    t: &mut [u16],
-) -> bool
-    requires { Shaped b.now × (n ≤ room b.now) × (length a.now ≡ width * n) × (w < n / 32) × Arrays n lo.old sn.old hd.old t.old × Noted a.now lo.old sn.old hd.old t.old (32 * w) }
-    ensures { Tells result (MarksOk b.now a.now (32 * w) (32 * w + 32)) × (result ≡ true → Noted a.now lo.new sn.new hd.new t.new (32 * w + 32)) }
+fn word_ok<const N: usize>(b: &[u32], a: &[u32], n: usize, w: usize, notes: &mut Notes<N>) -> bool
+    requires { Cut b.now a.now n × (w < n / 32) × (n + 8 < N) × Holds a.now notes.old (32 * w) }
+    ensures { Tells result (MarksOk b.now a.now (32 * w) (32 * w + 32)) × (result ≡ true → Holds a.now notes.new (32 * w + 32)) }
 {
     if b[17 + w] == 0 {
-        return zeros(a, 32 * WIDTH * w, 32 * WIDTH);
+        return zeros(&a[32 * WIDTH * w..32 * WIDTH * w + 32 * WIDTH]);
     }
-    bits_ok(b, a, n, w, lo, sn, hd, t)
+    bits_ok(b, a, n, w, notes)
 }
 
 // Every node.
-fn words_ok(
-    b: &[u32],
-    a: &[u32],
-    n: usize,
-    lo: &mut [u32],
-    sn: &mut [u32],
-    hd: &mut [u16],
-    t: &mut [u16],
-) -> bool
-    requires { Shaped b.now × (n ≤ room b.now) × (n % 32 ≡ 0) × (length a.now ≡ width * n) × Arrays n lo.old sn.old hd.old t.old × Noted a.now lo.old sn.old hd.old t.old 0 }
-    ensures { Tells result (MarksOk b.now a.now 0 n) × (result ≡ true → Noted a.now lo.new sn.new hd.new t.new n) }
+fn words_ok<const N: usize>(b: &[u32], a: &[u32], n: usize, notes: &mut Notes<N>) -> bool
+    requires { Cut b.now a.now n × (n + 8 < N) × Holds a.now notes.old 0 }
+    ensures { Tells result (MarksOk b.now a.now 0 n) × (result ≡ true → Holds a.now notes.new n) }
 {
-    let mut w = 0;
-    while w < n / 32 {
-        if !word_ok(b, a, n, w, lo, sn, hd, t) {
+    for w in 0..n / 32 {
+        if !word_ok(b, a, n, w, notes) {
             return false;
         }
-        w += 1;
     }
     true
 }
@@ -109,119 +71,70 @@ fn roots_ok(b: &[u32], n: usize, t: &mut [u16]) -> bool
     ensures { Tells result (RootsOk b.now n t.old 16) × (result ≡ true → RootsTaken b.now t.old t.new 16) }
 {
     t[0] = 16;
-    let mut v = 0;
-    while v < 16 {
-        let x = wide(b[1 + v]);
+    for v in 0..16 {
+        let x = b[1 + v] as usize;
         if n < x {
             return false;
         }
         if !take(t, x) {
             return false;
         }
-        v += 1;
     }
     true
 }
 
-// The first pass, and the roots taken from the counts that it noted, in arrays of zeros. Called for each length of arrays, so that it and the next stay functions of their own, with registers for their pointers.
-fn begun_ok(
-    b: &[u32],
-    a: &[u32],
-    n: usize,
-    lo: &mut [u32],
-    sn: &mut [u32],
-    hd: &mut [u16],
-    t: &mut [u16],
-) -> bool
-    requires { Cut b.now a.now n × Arrays n lo.old sn.old hd.old t.old × AllZero lo.old × AllZero sn.old × AllZero hd.old × AllZero t.old }
-    ensures { Goes result (Sound (up_to (heap b.now) n)) (Begun b.now a.now n lo.new sn.new hd.new t.new) }
+// The first pass, and the roots taken from the counts that it noted, from notes of nothing. It and the next are functions of their own, for in one body
+// the second is slower.
+#[inline(never)]
+fn begun_ok<const N: usize>(b: &[u32], a: &[u32], n: usize, notes: &mut Notes<N>) -> bool
+    requires { Cut b.now a.now n × (n + 8 < N) × Holds a.now notes.old 0 }
+    ensures { Goes result (Sound (up_to (heap b.now) n)) (Begun b.now a.now n notes.new.least notes.new.size_and_next notes.new.heads notes.new.tally) }
 {
-    if !words_ok(b, a, n, lo, sn, hd, t) {
-        return false;
-    }
-    roots_ok(b, n, t)
+    words_ok(b, a, n, notes) && roots_ok(b, n, &mut notes.tally)
 }
 
 // The second pass, and whether every count has come down to 0.
-fn ended_ok(
-    b: &[u32],
-    a: &[u32],
-    n: usize,
-    lo: &mut [u32],
-    hi: &mut [u32],
-    sn: &[u32],
-    hd: &[u16],
-    t: &mut [u16],
-) -> bool
-    requires { Cut b.now a.now n × Arrays n lo.old sn.now hd.now t.old × (n < length hi.old) × AllZero hi.old × Begun b.now a.now n lo.old sn.now hd.now t.old }
+#[inline(never)]
+fn ended_ok<const N: usize>(b: &[u32], a: &[u32], n: usize, notes: &mut Notes<N>) -> bool
+    requires { Cut b.now a.now n × (n + 8 < N) × Begun b.now a.now n notes.old.least notes.old.size_and_next notes.old.heads notes.old.tally }
     ensures { Tells result (Sound (up_to (heap b.now) n)) }
 {
-    if !trees_ok(a, n, lo, hi, sn, hd, t) {
+    if !notes.trees_ok(a, n) {
         return false;
     }
-    zeros_half(t, 1, n)
+    let tally = &notes.tally[..];
+    zeros_half(&tally[1..n + 1])
 }
 
-// Up to 512 nodes.
-fn few_ok(b: &[u32], a: &[u32], n: usize) -> bool
-    requires { Cut b.now a.now n × (n ≤ 512) }
+// Both passes, on arrays of N places. A function of its own: where room for so much is made behind the first tests of another, the compiler has been seen to lose what a register held.
+#[inline(never)]
+fn passes_ok<const N: usize>(b: &[u32], a: &[u32], n: usize) -> bool
+    requires { Cut b.now a.now n × (n + 8 < N) × (N ≤ 4105) }
     ensures { Tells result (Sound (up_to (heap b.now) n)) }
 {
-    let mut lo = [0u32; 513];
-    let mut hi = [0u32; 513];
-    let mut sn = [0u32; 513];
-    let mut hd = [0u16; 521];
-    let mut t = [0u16; 513];
-    if !begun_ok(b, a, n, &mut lo, &mut sn, &mut hd, &mut t) {
-        return false;
-    }
-    ended_ok(b, a, n, &mut lo, &mut hi, &sn, &hd, &mut t)
-}
-
-// Up to 2,048 nodes.
-fn half_ok(b: &[u32], a: &[u32], n: usize) -> bool
-    requires { Cut b.now a.now n × (n ≤ 2048) }
-    ensures { Tells result (Sound (up_to (heap b.now) n)) }
-{
-    let mut lo = [0u32; 2049];
-    let mut hi = [0u32; 2049];
-    let mut sn = [0u32; 2049];
-    let mut hd = [0u16; 2057];
-    let mut t = [0u16; 2049];
-    if !begun_ok(b, a, n, &mut lo, &mut sn, &mut hd, &mut t) {
-        return false;
-    }
-    ended_ok(b, a, n, &mut lo, &mut hi, &sn, &hd, &mut t)
-}
-
-// Up to 4,096 nodes.
-fn many_ok(b: &[u32], a: &[u32], n: usize) -> bool
-    requires { Cut b.now a.now n }
-    ensures { Tells result (Sound (up_to (heap b.now) n)) }
-{
-    let mut lo = [0u32; 4097];
-    let mut hi = [0u32; 4097];
-    let mut sn = [0u32; 4097];
-    let mut hd = [0u16; 4105];
-    let mut t = [0u16; 4097];
-    if !begun_ok(b, a, n, &mut lo, &mut sn, &mut hd, &mut t) {
-        return false;
-    }
-    ended_ok(b, a, n, &mut lo, &mut hi, &sn, &hd, &mut t)
+    let mut notes = Notes::<N> {
+        tally: [0; N],
+        least: [0; N],
+        greatest: [0; N],
+        size_and_next: [0; N],
+        heads: [0; N],
+    };
+    begun_ok(b, a, n, &mut notes) && ended_ok(b, a, n, &mut notes)
 }
 
 // The passes on n nodes. Smaller arrays are sooner filled with zeros.
+#[tactic(auto, using(crate::proofs::Cuts::cut_tells))]
 fn cut_ok(b: &[u32], a: &[u32], n: usize) -> bool
     requires { Cut b.now a.now n }
     ensures { Tells result (SoundBlock b.now) }
 {
     if n <= 512 {
-        return few_ok(b, a, n);
+        return passes_ok::<521>(b, a, n);
     }
     if n <= 2048 {
-        return half_ok(b, a, n);
+        return passes_ok::<2057>(b, a, n);
     }
-    many_ok(b, a, n)
+    passes_ok::<4105>(b, a, n)
 }
 
 // How many of the k occupancy words there are up to the last that is not 0.
@@ -229,12 +142,10 @@ fn used(b: &[u32], k: usize) -> usize
     requires { Shaped b.now × (k ≡ room b.now / 32) }
     ensures { (result ≤ k) × ((w : ℕ) → result ≤ w → w < k → word b.now (17 + w) ≡ 0) }
 {
-    let mut w = k;
-    while w != 0 {
-        if b[16 + w] != 0 {
-            return w;
+    for w in (0..k).rev() {
+        if b[17 + w] != 0 {
+            return w + 1;
         }
-        w -= 1;
     }
     0
 }
@@ -246,8 +157,5 @@ pub fn whole_ok(b: &[u32], a: &[u32], n: usize) -> bool
 {
     let m = 32 * used(b, n / 32);
     let k = WIDTH * m;
-    if !zeros(a, k, WIDTH * n - k) {
-        return false;
-    }
-    cut_ok(b, &a[..k], m)
+    zeros(&a[k..]) && cut_ok(b, &a[..k], m)
 }

@@ -1,11 +1,8 @@
 use mathlib.Core.Path.{◌≡◌}
-use Prim.Native.Nat.{ℕ, ◌+◌, ◌-◌, ◌≤◌, ◌<◌}
+use Prim.Native.Nat.{ℕ, ◌+◌, ◌≤◌, ◌<◌}
 use Rattle.model.specs.Block.{word}
 use Rattle.audit.proofs.whole.used.Given as goal
 
 -- From w on all occupancy words are 0.
 abbrev pub invariant-loop-w : goal.invariant-loop-w
-invariant-loop-w l = (l.w ≤ l.k) × ((v : ℕ) → l.w ≤ v → v < l.k → word l.b (17 + v) ≡ 0)
-
-abbrev pub decreases-loop-w : goal.decreases-loop-w
-decreases-loop-w l = l.w
+invariant-loop-w l = (v : ℕ) → l.w ≤ v → v < l.k → word l.b (17 + v) ≡ 0
