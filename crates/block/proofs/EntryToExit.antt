@@ -1,5 +1,5 @@
 -- A call from entry to exit, whatever its rule: carried out, or refused for room with every word as at entry.
-use mathlib.Core.Path.{◌≡◌, refl, ap, sym, subst, ◌∙◌}
+use mathlib.Core.Path.{◌≡◌, ap, sym, ◌∙◌}
 use mathlib.Core.Logic.{◌≢◌}
 use Prim.Native.Nat.{ℕ, ◌≤◌, ◌<◌}
 use mathlib.Core.Bool.{false, true≢false}
@@ -10,7 +10,6 @@ use Rattle.model.specs.Supply.{Make, short}
 use Rattle.model.specs.Heap.{tree, version, supply}
 use Rattle.model.specs.Block.{heap, Words, SoundBlock}
 use Rattle.model.specs.Moves.{Running, Over, Holds, Holding, Gives, Turned, FullBelow, HeldBelow, Swept, Finished}
-use Rattle.model.specs.Numbers.{NO_ROOM}
 use Rattle.model.specs.Calls.{fails, passes, Edited, Refused, Carried, Ending}
 use Rattle.model.proofs.maps.Sorts.{sound_by_versions}
 use Rattle.model.proofs.block.Pinned.{undone}
@@ -18,8 +17,7 @@ use Rattle.model.proofs.running.Growing.{stocked_supply}
 use Rattle.model.proofs.block.Versions.{sound_running, version_ordered, gave_version}
 use Rattle.model.proofs.running.Pieces.{AllNamed, start-holds, over-version}
 use Rattle.model.proofs.running.Ends.{held-from}
-use Rattle.block.specs.declared.Made.{Made}
-use Rattle.block.specs.declared.Made.TheVariants.{At, Full}
+use Rattle.std.specs.Prelude.{Option, Some, None}
 use Rattle.block.specs.Outcome.{tree_at, Stands, piece_of, Outcome, Settled}
 
 module _ {b : List ℕ} (B : SoundBlock b) where
@@ -47,28 +45,28 @@ module _ {b : List ℕ} (B : SoundBlock b) (ps : List ℕ) (N : AllNamed (heap b
   pub start : Holding b ps
   start = record { running = sound_running B; entry = heap b; holds = begins }
 
-  turned : {e : List ℕ} {q : Made} {rule : Make Tree} → Outcome b e ps q rule → Turned (heap b) (heap b) (heap e) (piece_of q) (λ n. 0)
+  turned : {e : List ℕ} {q : Option ℕ} {rule : Make Tree} → Outcome b e ps q rule → Turned (heap b) (heap b) (heap e) (piece_of q) (λ n. 0)
   turned O = O.came.turned (heap b) (λ n. 0) begins
 
-  gives : {e : List ℕ} {q : Made} {rule : Make Tree} → Outcome b e ps q rule → Gives (heap b) (heap e) (tree_at (heap e) q) (rule (supply (heap b)))
+  gives : {e : List ℕ} {q : Option ℕ} {rule : Make Tree} → Outcome b e ps q rule → Gives (heap b) (heap e) (tree_at (heap e) q) (rule (supply (heap b)))
   gives O = O.came.gives (heap b) (λ n. 0) begins (supply (heap b)) (stocked_supply (heap b))
 
-  over : {e : List ℕ} {q : Made} {rule : Make Tree} → Outcome b e ps q rule → Over (heap b) (heap e)
+  over : {e : List ℕ} {q : Option ℕ} {rule : Make Tree} → Outcome b e ps q rule → Over (heap b) (heap e)
   over O = (turned O).holds.over
 
   -- the nodes below those that the call made have references
-  pub held : {e : List ℕ} {q : Made} {rule : Make Tree} {from : ℕ} → FullBelow (heap b) from → Outcome b e ps q rule → HeldBelow (heap e) from
+  pub held : {e : List ℕ} {q : Option ℕ} {rule : Make Tree} {from : ℕ} → FullBelow (heap b) from → Outcome b e ps q rule → HeldBelow (heap e) from
   held F O = held-from b F (turned O).holds O.came.running
 
   -- success is never short of room
-  pub enough : {e : List ℕ} {n : ℕ} {rule : Make Tree} → Outcome b e ps (At n) rule → short (rule (supply (heap b))).1 ≡ false
+  pub enough : {e : List ℕ} {n : ℕ} {rule : Make Tree} → Outcome b e ps (Some n) rule → short (rule (supply (heap b))).1 ≡ false
   enough O = (gives O).1.enough
 
-  pub carried : {e after : List ℕ} {d n : ℕ} {rule : Make Tree} → Outcome b e ps (At n) rule → Ordered (rule (supply (heap b))).0
+  pub carried : {e after : List ℕ} {d n : ℕ} {rule : Make Tree} → Outcome b e ps (Some n) rule → Ordered (rule (supply (heap b))).0
       → Finished e after d n → Carried b after d rule
   carried {e} {after} {d} {n} {rule} O o F = record { enough = enough O; edited = ended B (over O) (sym (gives O).0) o F }
 
-  pub refused : {e after : List ℕ} {rule : Make Tree} → Outcome b e ps Full rule → Swept e after → Words b → Words after → Refused b after rule
+  pub refused : {e after : List ℕ} {rule : Make Tree} → Outcome b e ps None rule → Swept e after → Words b → Words after → Refused b after rule
   refused {e} {after} {rule} O W wb wa = record { short = gives O; same = undone b after B sound (W.gave.room ∙ (over O).room) same wb wa }
     where
       same : (v : ℕ) → v < 16 → version (heap after) v ≡ version (heap b) v
@@ -77,15 +75,8 @@ module _ {b : List ℕ} (B : SoundBlock b) (ps : List ℕ) (N : AllNamed (heap b
       sound : SoundBlock after
       sound = record { shaped = W.shaped; sound = sound_by_versions (heap after) W.kept (λ v lt. rw (same v lt) (version_ordered B.sound v lt)) }
 
--- the two ends of a call
-pub settled_at : {b e : List ℕ} {v n : ℕ} {q : Made} → q ≡ At n → Finished b e v n → Settled b e v q 0
-settled_at {b} {e} {v} p F = subst (λ q. Settled b e v q 0) (sym p) (refl, F)
-
-pub settled_full : {b e : List ℕ} {q : Made} (v : ℕ) → q ≡ Full → Swept b e → Settled b e v q NO_ROOM
-settled_full {b} {e} v p W = subst (λ q. Settled b e v q NO_ROOM) (sym p) (refl, W)
-
 -- a rule that has run from b to c, of pieces that stood there, making nodes from number `low` on
-pub record Run (b c : List ℕ) (low : ℕ) (made : Made) (rule : Make Tree) : Type 0 where
+pub record Run (b c : List ℕ) (low : ℕ) (made : Option ℕ) (rule : Make Tree) : Type 0 where
   pub sound : SoundBlock b
   pub low_is : (1 ≤ low) × FullBelow (heap b) low
   pub pieces : List ℕ
@@ -93,7 +84,7 @@ pub record Run (b c : List ℕ) (low : ℕ) (made : Made) (rule : Make Tree) : T
   pub out : Outcome b c pieces made rule
   pub ordered : Ordered (rule (supply (heap b))).0
 
-module _ {b c : List ℕ} {low : ℕ} {made : Made} {rule : Make Tree} (R : Run b c low made rule) where
+module _ {b c : List ℕ} {low : ℕ} {made : Option ℕ} {rule : Make Tree} (R : Run b c low made rule) where
   -- what the end asks of the block and of what was made
   pub run_asks : Running c × Stands (heap c) made × (1 ≤ low) × HeldBelow (heap c) low
   run_asks = (R.out.came.running, R.out.named, R.low_is.0, held R.sound R.pieces R.named R.low_is.1 R.out)
@@ -102,6 +93,6 @@ module _ {b c : List ℕ} {low : ℕ} {made : Made} {rule : Make Tree} (R : Run 
   pub run_ends : {after : List ℕ} {v n : ℕ} → Settled c after v made n → Words b → Words after → Ending b after v rule n
   run_ends {after} {v} {n} S wb wa = go made R.out S
     where
-      go : (m : Made) → Outcome b c R.pieces m rule → Settled c after v m n → Ending b after v rule n
-      go (At k) O (z, F) = let C = carried R.sound R.pieces R.named O R.ordered F in passes C.enough (z, C.edited)
-      go Full O (z, W) = let X = refused R.sound R.pieces R.named O W wb wa in fails (λ e. true≢false (sym X.short ∙ e)) (z, X.same)
+      go : (m : Option ℕ) → Outcome b c R.pieces m rule → Settled c after v m n → Ending b after v rule n
+      go (Some k) O (z, F) = let C = carried R.sound R.pieces R.named O R.ordered F in passes C.enough (z, C.edited)
+      go None O (z, W) = let X = refused R.sound R.pieces R.named O W wb wa in fails (λ e. true≢false (sym X.short ∙ e)) (z, X.same)

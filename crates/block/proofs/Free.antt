@@ -1,6 +1,5 @@
 -- The search for the lowest free node.
 use mathlib.Core.Path.{◌≡◌, refl, sym, ap, ◌∙◌}
-use mathlib.Core.Logic.{◌≢◌}
 use mathlib.Core.Bool.{Bool, true, false}
 use mathlib.Core.List.{List, [], ◌∷◌}
 use Prim.Native.Nat.{ℕ, zero, suc, ◌+◌, ◌-◌, ◌*◌, ◌/◌, ◌%◌, ◌^◌, ◌≤◌, ◌<◌}
@@ -10,11 +9,12 @@ use native.Mathlib.Decide.{ℕ_discrete}
 use lib.ListN.{drop}
 use lib.Dec.{eqb}
 use lib.Count.{trailing_of_zero}
+use Rattle.std.specs.Prelude.{Some, None, slice_get}
+use Rattle.std.proofs.lemmas.Option.{none-some, same_Some}
 use borrow.Author.Tests.{lt-ltb}
 use Rattle.model.specs.Block.{word, room, bit, occupied_at}
-use Rattle.model.specs.Supply.{first_of}
 use Rattle.model.specs.Heap.{free_from}
-use Rattle.block.specs.Words.{FullWords, first_zero}
+use Rattle.block.specs.Words.{WordsAre, first_zero}
 use Rattle.model.proofs.block.Bits.{below_all-set, at_clear}
 
 -- nodes that are taken are passed over
@@ -24,12 +24,12 @@ skip occ zero a k h = rw (zero-add, add-zero)
 skip occ (suc m) a k h =
     rw (suc-add m k) (rw (h a (omega arith) (omega arith), free_from) (skip occ m (suc a) k (λ x p q. h x (omega arith) (omega arith)) ∙ ap (λ i. free_from occ i k) (omega arith)))
 
-here : (occ : ℕ → Bool) (a k : ℕ) → occ a ≡ false → first_of (free_from occ a (suc k)) ≡ a
-unfolding free_from first_of
+here : (occ : ℕ → Bool) (a k : ℕ) → occ a ≡ false → slice_get (free_from occ a (suc k)) 0 ≡ Some a
+unfolding free_from
 here occ a k e = rw (e, free_from)
 
-pub none_left : (occ : ℕ → Bool) (a : ℕ) → first_of (free_from occ a 0) ≡ 0
-unfolding free_from first_of
+pub none_left : (occ : ℕ → Bool) (a : ℕ) → slice_get (free_from occ a 0) 0 ≡ None
+unfolding free_from
 none_left occ a = refl
 
 module _ (b : List ℕ) (w : ℕ) (fits : word b (17 + w) < 2 ^ 32) (whole : room b % 32 ≡ 0) (in_range : w < room b / 32) where
@@ -54,19 +54,19 @@ module _ (b : List ℕ) (w : ℕ) (fits : word b (17 + w) < 2 ^ 32) (whole : roo
         ∙ ap (λ j. free_from (occupied_at b) j (room b - 32 * (w + 1))) next
 
     -- bit t of word w is the first free node's
-    pub in_word : t < 32 → first_of (free_from (occupied_at b) (suc (32 * w)) (room b - 32 * w)) ≡ 32 * w + t + 1
+    pub in_word : t < 32 → slice_get (free_from (occupied_at b) (suc (32 * w)) (room b - 32 * w)) 0 ≡ Some (32 * w + t + 1)
     in_word h =
         let split : room b - 32 * w ≡ t + suc (room b - 32 * w - t - 1) = omega arith in
-        ap (λ k. first_of (free_from (occupied_at b) (suc (32 * w)) k)) split
-        ∙ ap first_of (skip (occupied_at b) t (suc (32 * w)) (suc (room b - 32 * w - t - 1)) (taken_in t (omega arith) (omega arith)))
+        ap (λ k. slice_get (free_from (occupied_at b) (suc (32 * w)) k) 0) split
+        ∙ ap (λ fs. slice_get fs 0) (skip (occupied_at b) t (suc (32 * w)) (suc (room b - 32 * w - t - 1)) (taken_in t (omega arith) (omega arith)))
         ∙ here (occupied_at b) (suc (32 * w) + t) (room b - 32 * w - t - 1) (occupied_in (suc (32 * w) + t) t (omega arith) h ∙ rw (is, at_clear 32 (word b (17 + w)) fits (omega arith)))
-        ∙ omega arith
+        ∙ ap Some (omega arith)
 
 -- words of all ones are passed over
 full_word : (b : List ℕ) (w : ℕ) → word b (17 + w) ≡ 4294967295 → first_zero b w ≡ 32
 full_word b w e = rw e (trailing_of_zero 32)
 
-pub over-words : (b : List ℕ) (n w : ℕ) → room b % 32 ≡ 0 → w + n ≤ room b / 32 → FullWords b w n
+over-words : (b : List ℕ) (n w : ℕ) → room b % 32 ≡ 0 → w + n ≤ room b / 32 → WordsAre b w n 4294967295
     → free_from (occupied_at b) (suc (32 * w)) (room b - 32 * w) ≡ free_from (occupied_at b) (suc (32 * (w + n))) (room b - 32 * (w + n))
 over-words b zero w whole le f = rw (add-zero w) refl
 over-words b (suc n) w whole le f =
@@ -77,20 +77,21 @@ over-words b (suc n) w whole le f =
     ∙ over-words b n (w + 1) whole (omega arith) (λ i lt. let q : 17 + (w + 1 + i) ≡ 17 + (w + suc i) = omega arith in ap (word b) q ∙ f (suc i) (omega arith))
     ∙ ap (λ x. free_from (occupied_at b) (suc (32 * x)) (room b - 32 * x)) next
 
--- what was found
-pub found_cons : (fs : List ℕ) (n : ℕ) → n ≡ first_of fs → n ≢ 0 → fs ≡ n ∷ drop 1 fs
-unfolding first_of
-found_cons [] n e ne = absurd (ne e)
-found_cons (f ∷ fs) n e ne = rw e
+pub over_run : (b : List ℕ) (from to : ℕ) → room b % 32 ≡ 0 → from ≤ to → to ≤ room b / 32 → WordsAre b from (to - from) 4294967295
+    → free_from (occupied_at b) (suc (32 * to)) (room b - 32 * to) ≡ free_from (occupied_at b) (suc (32 * from)) (room b - 32 * from)
+over_run b from to whole le most f =
+    let all : from + (to - from) ≡ to = omega arith in
+    ap (λ x. free_from (occupied_at b) (suc (32 * x)) (room b - 32 * x)) (sym all)
+    ∙ sym (over-words b (to - from) from whole (omega (arith, all, most)) f)
 
-pub found_none : (occ : ℕ → Bool) (a k : ℕ) → 1 ≤ a → first_of (free_from occ a k) ≡ 0 → free_from occ a k ≡ []
-unfolding free_from first_of
-found_none occ a zero p e = refl
-found_none occ a (suc k) p e = go (occ a) refl (found_none occ (suc a) k (omega arith))
-  where
-    go : (t : Bool) → occ a ≡ t → (first_of (free_from occ (suc a) k) ≡ 0 → free_from occ (suc a) k ≡ []) → free_from occ a (suc k) ≡ []
-    go true o ih = rw (o, free_from) (ih (rw (o, free_from) at e))
-    go false o ih = let z : a ≡ 0 = rw (o, free_from) at e in absurd (omega arith)
+-- what was found
+pub found_cons : (fs : List ℕ) (n : ℕ) → Some n ≡ slice_get fs 0 → fs ≡ n ∷ drop 1 fs
+found_cons [] n e = absurd (none-some n (sym e))
+found_cons (f ∷ fs) n e = ap (λ x. x ∷ fs) (sym (same_Some n f e))
+
+pub found_none : (fs : List ℕ) → None ≡ slice_get fs 0 → fs ≡ []
+found_none [] e = refl
+found_none (f ∷ fs) e = absurd (none-some f e)
 
 pub found_free : (occ : ℕ → Bool) (a k n : ℕ) (ns : List ℕ) → free_from occ a k ≡ n ∷ ns → (occ n ≡ false) × (a ≤ n) × (n < a + k)
 unfolding free_from
@@ -106,15 +107,15 @@ found_free occ a (suc k) n ns e = go (occ a) refl (found_free occ (suc a) k n ns
         (rw (← q) o, omega arith, omega arith)
 
 -- below the lowest free node all are occupied
-pub below_lowest : (occ : ℕ → Bool) (a k m : ℕ) → a ≤ m → m < first_of (free_from occ a k) → occ m ≡ true
-unfolding free_from first_of
-below_lowest occ a zero m p q = absurd (omega arith)
-below_lowest occ a (suc k) m p q = go (occ a) refl (ℕ_discrete a m) (below_lowest occ (suc a) k m)
+pub below_lowest : (occ : ℕ → Bool) (a k m n : ℕ) → Some n ≡ slice_get (free_from occ a k) 0 → a ≤ m → m < n → occ m ≡ true
+unfolding free_from
+below_lowest occ a zero m n e p q = absurd (none-some n (sym e))
+below_lowest occ a (suc k) m n e p q = go (occ a) refl (ℕ_discrete a m) (below_lowest occ (suc a) k m n)
   where
-    go : (t : Bool) → occ a ≡ t → Dec (a ≡ m) → (suc a ≤ m → m < first_of (free_from occ (suc a) k) → occ m ≡ true) → occ m ≡ true
-    go true o (yes e) ih = rw (← e) o
-    go true o (no e) ih = ih (omega arith) (rw (o, free_from) at q)
-    go false o d ih = let z : m < a = rw (o, free_from) at q in absurd (omega arith)
+    go : (t : Bool) → occ a ≡ t → Dec (a ≡ m) → (Some n ≡ slice_get (free_from occ (suc a) k) 0 → suc a ≤ m → m < n → occ m ≡ true) → occ m ≡ true
+    go true o (yes d) ih = rw (← d) o
+    go true o (no d) ih = ih (rw (o, free_from) at e) (omega arith) q
+    go false o d ih = let first : Some n ≡ Some a = rw (o, free_from) at e in absurd (omega (arith, same_Some n a first))
 
 -- and so are all where none is free
 pub none_free : (occ : ℕ → Bool) (a k m : ℕ) → free_from occ a k ≡ [] → a ≤ m → m < a + k → occ m ≡ true

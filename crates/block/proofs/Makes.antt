@@ -1,22 +1,21 @@
 -- A make: the lowest free node's bit is set and its words are written, and a reference to each child is counted.
-use mathlib.Core.Path.{◌≡◌, refl, ap, sym, subst, ◌∙◌}
+use mathlib.Core.Path.{◌≡◌, refl, ap, sym, ◌∙◌}
 use mathlib.Core.Logic.{◌≢◌}
-use Prim.Native.Nat.{ℕ, zero, suc, ◌+◌, ◌*◌, ◌/◌, ◌≤◌, ◌<◌}
+use Prim.Native.Nat.{ℕ, zero, suc, ◌+◌, ◌*◌, ◌≤◌, ◌<◌}
 use mathlib.Core.Bool.{true, false, true≢false}
 use mathlib.Core.List.{List, [], ◌∷◌}
 use lib.ListN.{drop}
 use native.Mathlib.Omega.{arith}
 use native.Mathlib.Decide.{ℕ_discrete}
-use Rattle.model.specs.Heap.{Heap, Occupied, Named, size_at, sum_at, tree, hit, hits, refs, Linked, free, lowest}
-use Rattle.model.specs.Block.{word, room, width, node_word, node_at, occupied_at, heap, Shaped}
-use Rattle.model.specs.Supply.{make, first_of}
+use Rattle.model.specs.Heap.{Heap, Occupied, Named, size_at, sum_at, tree, hit, hits, refs, Linked, free}
+use Rattle.model.specs.Block.{room, width, node_word, occupied_at, heap, Shaped}
+use Rattle.model.specs.Supply.{make}
 use Rattle.model.specs.Moves.{Except, Made, Raised, Writing, Running}
 use Rattle.model.proofs.block.Counts.{hit_yes, hit_no}
 use Rattle.model.proofs.running.Growing.{named_occupied, came_made}
 use Rattle.block.specs.Low.{Low}
-use Rattle.block.specs.Outcome.{Outcome, node_of}
-use Rattle.block.specs.declared.Node.{Node}
-use Rattle.block.specs.declared.Made.TheVariants.{At}
+use Rattle.block.specs.Outcome.{Outcome}
+use Rattle.std.specs.Prelude.{Some, slice_get}
 use Rattle.block.proofs.Free.{found_cons, found_free, below_lowest}
 use Rattle.block.proofs.Writes.{fields, Unoccupied, writing_except}
 
@@ -50,9 +49,9 @@ pub record Lowest (b : List ℕ) (n : ℕ) : Type 0 where
   pub first : free (heap b) ≡ n ∷ drop 1 (free (heap b))
   pub node : Unoccupied b n
 
-pub lowest_found : {b : List ℕ} {n : ℕ} → Shaped b → n ≡ lowest (heap b) → n ≢ 0 → Lowest b n
-lowest_found {b} {n} B e ne =
-    let first = found_cons (free (heap b)) n e ne in
+pub lowest_found : {b : List ℕ} {n : ℕ} → Shaped b → Some n ≡ slice_get (free (heap b)) 0 → Lowest b n
+lowest_found {b} {n} B e =
+    let first = found_cons (free (heap b)) n e in
     let f = found_free (occupied_at b) 1 (room b) n (drop 1 (free (heap b))) first in
     record { first = first; node = record { shaped = B; low = f.1; high = omega (arith, f.2); free = f.0 } }
 
@@ -135,7 +134,7 @@ module _ {b e : List ℕ} {n k v l r : ℕ} (M : Making b e n k v l r) where
           blanks zero z ne = refl
           blanks (suc m) z ne = omega (arith, raised (suc m) (omega arith), W.words 5 (suc m) (omega arith) ne, miss l m M.left z, miss r m M.right z)
 
-      pub makes : Outcome b g (l ∷ r ∷ []) (At n) (make k v (tree (heap b) l) (tree (heap b) r))
+      pub makes : Outcome b g (l ∷ r ∷ []) (Some n) (make k v (tree (heap b) l) (tree (heap b) r))
       makes =
           let key = C.1.same.key n ∙ A.1.same.key n ∙ W.here 0 (omega arith) in
           let value = C.1.same.value n ∙ A.1.same.value n ∙ W.here 1 (omega arith) in
@@ -143,18 +142,7 @@ module _ {b e : List ℕ} {n k v l r : ℕ} (M : Making b e n k v l r) where
 
       -- no node below it was free, and none is now
       pub makes_low : Low g n
-      unfolding first_of
       makes_low = (
         M.lowest.node.low,
-        λ m p q. made.except.occupied m (omega arith) ∙ below_lowest (occupied_at b) 1 (room b) m p (subst (λ fs. m < first_of fs) (sym M.lowest.first) q),
+        λ m p q. made.except.occupied m (omega arith) ∙ below_lowest (occupied_at b) 1 (room b) m n (ap (λ fs. slice_get fs 0) (sym M.lowest.first)) p q,
       )
-
--- a node's words as code reads them
-pub node_is : (b : List ℕ) (n : ℕ) → 1 ≤ n
-    → ◌≡◌ {A = Node} (record { key = word b (node_at b n); value = word b (node_at b n + 1); left = word b (node_at b n + 2); right = word b (node_at b n + 3) }) (node_of (heap b) n)
-node_is b zero p = absurd (omega arith)
-node_is b (suc n) p = same _ _ _ _ _ _ _ _ (ap (word b) (omega arith)) (ap (word b) (omega arith)) (ap (word b) (omega arith)) (ap (word b) (omega arith))
-  where
-    same : (k v l r k' v' l' r' : ℕ) → k ≡ k' → v ≡ v' → l ≡ l' → r ≡ r'
-        → ◌≡◌ {A = Node} (record { key = k; value = v; left = l; right = r }) (record { key = k'; value = v'; left = l'; right = r' })
-    same k v l r k' v' l' r' a b c d = rw (a, b, c, d)

@@ -14,8 +14,9 @@ use Rattle.model.specs.Heap.{Occupied}
 use Rattle.model.specs.Block.{word, room, width, node_word, node_at, bit, occupied_at, heap, Shaped}
 use Rattle.model.specs.Moves.{Except, Emptied, Writing}
 use Rattle.model.proofs.block.Words.{spot, room-set, root_set, occupied_set, node_set_same, node_set_other, node_set-word, shaped_set}
-use Rattle.model.proofs.block.Bits.{bit-set_same, bit-set_other, bit_clear_same, bit_clear_other}
 use Rattle.block.specs.Words.{written}
+use lib.Bits.{bit_xor}
+use Rattle.std.proofs.lemmas.Nat.Bits.{bit_at_xor, bit_at-pow_same, bit_at-pow_other}
 
 -- The bit
 
@@ -83,37 +84,38 @@ pub record Unoccupied (b : List ℕ) (n : ℕ) : Type 0 where
   pub high : n ≤ room b
   pub free : occupied_at b n ≡ false
 
--- what setting its bit asks, and what that leaves
-pub take-asks : {b : List ℕ} (n : ℕ) → Unoccupied b n → Shaped b × (1 ≤ n) × (n ≤ room b) × (bit (word b (17 + (n - 1) / 32)) ((n - 1) % 32) ≡ 0)
-take-asks zero F = absurd (omega (arith, F.low))
-take-asks {b} (suc n) F = let e : suc n - 1 ≡ n = omega arith in (F.shaped, F.low, F.high, rw e (bit-zero b n F.high F.free))
+-- bit j of a word is turned, and every other bit stays
+turned_here : (x j : ℕ) → bit (bit_xor x (2 ^ j)) j ≡ 1 - bit x j
+turned_here x j = omega (arith, bit_at_xor x (2 ^ j) j, bit_at-pow_same j)
 
+turned_other : (x j i : ℕ) → i ≢ j → bit (bit_xor x (2 ^ j)) i ≡ bit x i
+turned_other x j i ne = omega (arith, bit_at_xor x (2 ^ j) i, bit_at-pow_other j i ne)
+
+-- a free node is taken
 pub took : {b e : List ℕ} (n : ℕ) (xs : ℕ → ℕ) → Unoccupied b n → node_word b 5 n ≡ 0
-    → e ≡ set b (17 + (n - 1) / 32) (word b (17 + (n - 1) / 32) + 2 ^ ((n - 1) % 32)) → Uncounted b e n true xs 0
+    → e ≡ set b (17 + (n - 1) / 32) (bit_xor (word b (17 + (n - 1) / 32)) (2 ^ ((n - 1) % 32))) → Uncounted b e n true xs 0
 took zero xs F z q = absurd (omega (arith, F.low))
 took {b} (suc n) xs F z q =
     let e : suc n - 1 ≡ n = omega arith in
     let x = word b (17 + n / 32) in
-    let o = bit-zero b n F.high F.free in
-    let y = x + 2 ^ (n % 32) in
-    let here : eqb (bit y (n % 32)) 1 ≡ true = rw (bit-set_same (n % 32) x o) in
-    let others : (i : ℕ) → i ≢ n % 32 → bit y i ≡ bit x i = λ i ne. bit-set_other (n % 32) i x o ne in
+    let y = bit_xor x (2 ^ (n % 32)) in
+    let here : eqb (bit y (n % 32)) 1 ≡ true = rw (turned_here x (n % 32), bit-zero b n F.high F.free) in
+    let others = turned_other x (n % 32) in
     rw (q, e) (bit_marked b F.shaped n y true F.high here others xs, words_marked b F.shaped n y true F.high here others xs 5 (suc n) (omega arith) ∙ z)
 
--- and the same of clearing it
-pub free-asks : (b : List ℕ) (n : ℕ) → Shaped b → Occupied (heap b) n
-    → Shaped b × (1 ≤ n) × (n ≤ room b) × (bit (word b (17 + (n - 1) / 32)) ((n - 1) % 32) ≡ 1)
-free-asks b zero B o = absurd (true≢false (sym o))
-free-asks b (suc n) B o = let q = bit-one b n o in let e : suc n - 1 ≡ n = omega arith in (B, omega arith, q.0, rw e q.1)
+-- an occupied one is free again
+pub occupied_within : (b : List ℕ) (n : ℕ) → Occupied (heap b) n → (1 ≤ n) × (n ≤ room b)
+occupied_within b zero o = absurd (true≢false (sym o))
+occupied_within b (suc n) o = (omega arith, (bit-one b n o).0)
 
 pub freed : {b e : List ℕ} (n : ℕ) (xs : ℕ → ℕ) → Shaped b → Occupied (heap b) n
-    → e ≡ set b (17 + (n - 1) / 32) (word b (17 + (n - 1) / 32) - 2 ^ ((n - 1) % 32)) → Writing b e n false xs 0
+    → e ≡ set b (17 + (n - 1) / 32) (bit_xor (word b (17 + (n - 1) / 32)) (2 ^ ((n - 1) % 32))) → Writing b e n false xs 0
 freed zero xs B o q = absurd (true≢false (sym o))
 freed {b} (suc n) xs B o q =
     let e : suc n - 1 ≡ n = omega arith in
     let x = word b (17 + n / 32) in
     let one = bit-one b n o in
-    rw (q, e) (bit_marked b B n (x - 2 ^ (n % 32)) false one.0 (rw (bit_clear_same (n % 32) x one.1)) (λ i ne. bit_clear_other (n % 32) i x one.1 ne) xs)
+    rw (q, e) (bit_marked b B n (bit_xor x (2 ^ (n % 32))) false one.0 (rw (turned_here x (n % 32), one.1)) (turned_other x (n % 32)) xs)
 
 -- The words
 

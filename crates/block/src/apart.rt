@@ -29,6 +29,7 @@ pub fn take_apart(b: &mut [u32], low: &mut u32, n: u32) -> Node
         clear(b, n);
         unlink(b, node.left);
         unlink(b, node.right);
+        // A test and not the lower of the two, which would store `low` at every node.
         let below = n < *low;
         if below {
             *low = n;

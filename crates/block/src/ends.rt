@@ -1,15 +1,15 @@
 // Giving up, and the end of a call.
-ghost use Rattle.std.specs.Prelude.{◌≡◌, true, ℕ, ◌+◌, ◌-◌, ◌/◌, ◌<◌, ◌≤◌};
+ghost use Rattle.std.specs.Prelude.{◌≡◌, ℕ, ◌+◌, ◌<◌, ◌≤◌};
 ghost use Rattle.model.specs.Heap.{Named, Occupied, Linked};
 ghost use Rattle.model.specs.Moves.{Lowered, Emptied, Owed, Paid, Unnamed, Freed, Rooted, Running, HeldBelow, Tidied, Swept, Finished};
 ghost use Rattle.model.specs.Block.{heap, room, node_word, Shaped};
-ghost use Rattle.block.specs.Words.{FreeWords};
+ghost use Rattle.answers.specs.Numbers.{code};
 ghost use Rattle.block.specs.Outcome.{Stands, Settled};
 
-use crate::words::{free_bit, set_word, write};
-use crate::{Made, node_word, raise, root};
-
-const NO_ROOM: u32 = 5;
+use crate::occupancy::{ALL_FREE, pass};
+use crate::words::{set_word, turn_bit, write};
+use crate::{node_word, raise, root};
+use answers::Refusal;
 
 // One reference fewer to node n: the count that is left.
 pub fn lower(b: &mut [u32], n: u32) -> u32
@@ -26,7 +26,7 @@ pub fn clear(b: &mut [u32], n: u32)
     requires { Shaped b.old × Occupied (heap b.old) n }
     ensures { Shaped b.new × Emptied (heap b.old) (heap b.new) n }
 {
-    free_bit(b, n);
+    turn_bit(b, n);
     set_word(b, 5, n, 0);
     write(b, n, 0, 0, 0, 0, 0, 0);
 }
@@ -84,44 +84,13 @@ fn tidy_word(b: &mut [u32], from: u32, end: u32)
     requires { Running b.old × HeldBelow (heap b.old) from × (1 ≤ from) × (from ≤ end) × (end ≤ room b.old + 1) }
     ensures { Tidied b.old b.new end }
 {
-    let mut i = from;
-    while i < end {
-        tidy(b, i);
-        i += 1;
+    for n in from..end {
+        tidy(b, n);
     }
-}
-
-// Whether the eight occupancy words from w on are all 0. One `|` a word and no test: of that LLVM makes vectors.
-fn eight_free(b: &[u32], w: u32) -> bool
-    requires { Shaped b.now × (w + 8 ≤ room b.now / 32) }
-    ensures { result ≡ true → FreeWords b.now w 8 }
-{
-    let k = (17 + w) as usize;
-    let mut s = 0;
-    let mut j = 0;
-    while j < 8 {
-        s |= b[k + j];
-        j += 1;
-    }
-    s == 0
-}
-
-// Goes on from a word past some that are 0, eight at a time: where little is occupied a sweep passes over many.
-fn free_words(b: &[u32], from: u32, m: u32) -> u32
-    requires { Shaped b.now × (m ≡ room b.now / 32) × (from ≤ m) }
-    ensures { (from ≤ result) × (result ≤ m) × FreeWords b.now from (result - from) }
-{
-    let mut w = from;
-    while w + 8 <= m {
-        if !eight_free(b, w) {
-            return w;
-        }
-        w += 8;
-    }
-    w
 }
 
 // Every node that nothing names is emptied. The call made none below `from`, so none of those is read; nor are 32 free nodes, whose occupancy word is 0.
+// The loop is a `while`, as it goes on behind each run of such words.
 pub fn sweep(b: &mut [u32], from: u32)
     requires { Running b.old × (1 ≤ from) × HeldBelow (heap b.old) from }
     ensures { Swept b.old b.new }
@@ -137,7 +106,7 @@ pub fn sweep(b: &mut [u32], from: u32)
             tidy_word(b, i, next);
             i = next;
         } else {
-            w = free_words(b, w, m);
+            w = pass::<ALL_FREE>(b, w, m);
             i = 32 * w + 1;
         }
     }
@@ -156,14 +125,14 @@ pub fn finish(b: &mut [u32], v: u32, n: u32, from: u32)
 }
 
 // The end of an edit: version v takes what was made, or what was made is given up again.
-pub fn settle(b: &mut [u32], v: u32, from: u32, made: Made) -> u32
+pub fn settle(b: &mut [u32], v: u32, from: u32, made: Option<u32>) -> Result<(), Refusal>
     requires { Running b.old × (v < 16) × Stands (heap b.old) made × (1 ≤ from) × HeldBelow (heap b.old) from }
-    ensures { Settled b.old b.new v made result }
+    ensures { Settled b.old b.new v made (code result) }
 {
-    let Made::At(n) = made else {
+    let Some(n) = made else {
         sweep(b, from);
-        return NO_ROOM;
+        return Err(Refusal::NoRoom);
     };
     finish(b, v, n, from);
-    0
+    Ok(())
 }

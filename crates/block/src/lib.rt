@@ -3,18 +3,21 @@
 
 pub mod apart;
 pub mod ends;
+mod occupancy;
 mod words;
 
-ghost use Rattle.std.specs.Prelude.{◌≡◌, true, ℕ, suc, ◌+◌, ◌-◌, ◌*◌, ◌/◌, ◌<◌, ◌≤◌, [], ◌∷◌};
-ghost use Rattle.model.specs.Heap.{Named, size_at, sum_at, tree, Linked, free_from, lowest};
-ghost use Rattle.model.specs.Moves.{Raised, Holding};
-ghost use Rattle.model.specs.Block.{heap, room, width, node_word, occupied_at, Shaped};
+ghost use Rattle.std.specs.Prelude.{◌≡◌, ℕ, ◌+◌, ◌*◌, ◌/◌, ◌<◌, ◌≤◌, slice_get};
+ghost use Rattle.model.specs.Heap.{Named, size_at, sum_at, Linked, free};
+ghost use Rattle.model.specs.Moves.{Raised};
+ghost use Rattle.model.specs.Block.{heap, room, width, node_word, Shaped};
 ghost use Rattle.model.specs.Supply.{make};
-ghost use Rattle.block.specs.Words.{FullWords, first_zero};
+ghost use Rattle.block.specs.Words.{first_zero};
 ghost use Rattle.block.specs.Low.{Low};
-ghost use Rattle.block.specs.Outcome.{Outcome, is_absent, node_of};
+ghost use Rattle.block.specs.Outcome.{node_of};
+ghost use Rattle.block.specs.Pairs.{Pair, Combined};
 
-use words::{node_at, set_word, take_bit, write};
+use occupancy::{ALL_TAKEN, pass};
+use words::{node_at, set_word, turn_bit, write};
 
 // A node without its size and count.
 #[derive(Clone, Copy)]
@@ -23,40 +26,6 @@ pub struct Node {
     pub value: u32,
     pub left: u32,
     pub right: u32,
-}
-
-// The value under a key, if there is one.
-#[derive(Clone, Copy)]
-pub enum Found {
-    Value(u32),
-    Absent,
-}
-
-// Whether there is none.
-pub fn is_absent(f: Found) -> bool
-    ensures { result ≡ is_absent f }
-{
-    match f {
-        Found::Value(_) => false,
-        Found::Absent => true,
-    }
-}
-
-// The node that was made, if there was room.
-#[derive(Clone, Copy)]
-pub enum Made {
-    At(u32),
-    Full,
-}
-
-// The same answer, part by part. A copy of the whole has to wait for both its parts, which a maker has stored one by one only just before.
-pub fn again(made: Made) -> Made
-    ensures { result ≡ made }
-{
-    match made {
-        Made::At(n) => Made::At(n),
-        Made::Full => Made::Full,
-    }
 }
 
 // The root of version v.
@@ -99,13 +68,6 @@ pub fn size_at(b: &[u32], n: u32) -> u32
     if n == 0 { 0 } else { node_word(b, 4, n) }
 }
 
-// A word among sums.
-pub fn long(x: u32) -> u64
-    ensures { (result ≡ x) × (result < 4294967296) }
-{
-    x as u64
-}
-
 // The sum of the values below n, of its two words.
 pub fn sum_at(b: &[u32], n: u32) -> u64
     requires { Shaped b.now × Linked (heap b.now) × Named (heap b.now) n }
@@ -115,7 +77,7 @@ pub fn sum_at(b: &[u32], n: u32) -> u64
         return 0;
     }
     let k = node_at(b, n);
-    long(b[k + 6]) + 4294967296 * long(b[k + 7])
+    u64::from(b[k + 6]) + 4294967296 * u64::from(b[k + 7])
 }
 
 // One more reference to n.
@@ -137,59 +99,27 @@ fn first_zero(b: &[u32], w: u32) -> u32
     u32::trailing_zeros(!b[(17 + w) as usize])
 }
 
-// Whether the eight occupancy words from w on are all ones. One `&` a word and no test: of that LLVM makes vectors.
-fn eight_full(b: &[u32], w: u32) -> bool
-    requires { Shaped b.now × (w + 8 ≤ room b.now / 32) }
-    ensures { result ≡ true → FullWords b.now w 8 }
-{
-    let k = (17 + w) as usize;
-    let mut s = 4294967295;
-    let mut j = 0;
-    while j < 8 {
-        s &= b[k + j];
-        j += 1;
-    }
-    s == 4294967295
-}
-
-// Goes on from a word past some that are all ones, eight at a time: where much is occupied a search passes over many.
-fn full_words(b: &[u32], from: u32, m: u32) -> u32
-    requires { Shaped b.now × (m ≡ room b.now / 32) × (from ≤ m) }
-    ensures { (result ≤ m) × (free_from (occupied_at b.now) (suc (32 * result)) (room b.now - 32 * result) ≡ free_from (occupied_at b.now) (suc (32 * from)) (room b.now - 32 * from)) }
-{
-    let mut w = from;
-    while w + 8 <= m {
-        if !eight_full(b, w) {
-            return w;
-        }
-        w += 8;
-    }
-    w
-}
-
-// The lowest unoccupied node, or 0: the first word that is not all ones has it. No node below `low` is free, so the search begins at its word. That one is
+// The lowest unoccupied node: the first word that is not all ones has it. No node below `low` is free, so the search begins at its word. That one is
 // looked at alone first: a make has only just stored it, and a reading of eight words at once would have to wait for the store.
-fn lowest_free(b: &[u32], low: u32) -> u32
+fn lowest_free(b: &[u32], low: u32) -> Option<u32>
     requires { Shaped b.now × Low b.now low }
-    ensures { result ≡ lowest (heap b.now) }
+    ensures { result ≡ slice_get (free (heap b.now)) 0 }
 {
     let m = b[0] / 32;
     let first = (low - 1) / 32;
     if first < m {
         let t = first_zero(b, first);
         if t < 32 {
-            return 32 * first + t + 1;
+            return Some(32 * first + t + 1);
         }
     }
-    let mut w = full_words(b, first, m);
-    while w < m {
+    for w in pass::<ALL_TAKEN>(b, first, m)..m {
         let t = first_zero(b, w);
         if t < 32 {
-            return 32 * w + t + 1;
+            return Some(32 * w + t + 1);
         }
-        w += 1;
     }
-    0
+    None
 }
 
 // Where a call's makes begin: every node below is occupied.
@@ -197,26 +127,31 @@ pub fn makes_from(b: &[u32]) -> u32
     requires { Shaped b.now }
     ensures { Low b.now result }
 {
-    let n = lowest_free(b, 1);
-    if n == 0 { b[0] + 1 } else { n }
+    lowest_free(b, 1).unwrap_or(b[0] + 1)
 }
 
-// Makes the node of key, value, left and right. Nothing names it yet, so its count is 0. `low` rises to it: a large edit makes thousands of nodes, and
-// none looks past those made before it.
-pub fn make(b: &mut [u32], low: &mut u32, key: u32, value: u32, left: u32, right: u32) -> Made
-    requires { (Holding b.old (left ∷ right ∷ []) × Named (heap b.old) left × Named (heap b.old) right × (size_at (heap b.old) left + size_at (heap b.old) right < 1048576)) × Low b.old low.old }
-    ensures { Outcome b.old b.new (left ∷ right ∷ []) result (make key value (tree (heap b.old) left) (tree (heap b.old) right)) × Low b.new low.new }
+// Makes the node of key, value, left and right, if there is room. Nothing names it yet, so its count is 0. `low` rises to it: a large edit makes thousands
+// of nodes, and none looks past those made before it.
+// Block and `low` stay two parameters in every maker: of a struct that lends the block each would have to promise that it lends the same one still.
+// So do key, value and links: at most calls they come from several places, and a struct of them would be a literal of the same four names there.
+pub fn make(
+    b: &mut [u32],
+    low: &mut u32,
+    key: u32,
+    value: u32,
+    left: u32,
+    right: u32,
+) -> Option<u32>
+    requires { Pair b.old left right × Low b.old low.old }
+    ensures { Combined b.old b.new left right result (make key value) × Low b.new low.new }
 {
-    let n = lowest_free(b, *low);
-    if n == 0 {
-        return Made::Full;
-    }
+    let n = lowest_free(b, *low)?;
     *low = n;
     let size = size_at(b, left) + size_at(b, right) + 1;
-    let sum = long(value) + sum_at(b, left) + sum_at(b, right);
-    take_bit(b, n);
+    let sum = u64::from(value) + sum_at(b, left) + sum_at(b, right);
+    turn_bit(b, n);
     write(b, n, key, value, left, right, size, sum);
     raise(b, left);
     raise(b, right);
-    Made::At(n)
+    Some(n)
 }

@@ -1,16 +1,17 @@
 // Words of the block, set one at a time.
-ghost use Rattle.std.specs.Prelude.{◌≡◌, ℕ, ◌+◌, ◌-◌, ◌*◌, ◌/◌, ◌%◌, ◌^◌, ◌<◌, ◌≤◌, length, set};
-ghost use Rattle.model.specs.Block.{room, width, node_at, word, bit, Shaped};
+ghost use Rattle.std.specs.Prelude.{◌≡◌, ℕ, ◌+◌, ◌-◌, ◌*◌, ◌/◌, ◌%◌, ◌^◌, ◌<◌, ◌≤◌, length, set, bit_xor};
+ghost use Rattle.model.specs.Block.{room, width, node_at, word, Shaped};
 ghost use Rattle.block.specs.Words.{written};
 
-use model::WIDTH_U32;
+use model::WIDTH;
 
 // Where the words of node n begin.
 pub fn node_at(b: &[u32], n: u32) -> usize
     requires { Shaped b.now × (1 ≤ n) × (n ≤ room b.now) }
     ensures { (result ≡ node_at b.now n) × (result + width ≤ length b.now) }
 {
-    (17 - WIDTH_U32 + b[0] / 32 + WIDTH_U32 * n) as usize
+    let words = WIDTH as u32;
+    (17 - words + b[0] / 32 + words * n) as usize
 }
 
 // Word j of node n becomes x.
@@ -22,26 +23,13 @@ pub fn set_word(b: &mut [u32], j: usize, n: u32, x: u32)
     b[at] = x;
 }
 
-// Node n's bit, which is 0, is set: a sum, since nothing carries.
-pub fn take_bit(b: &mut [u32], n: u32)
-    requires { Shaped b.old × (1 ≤ n) × (n ≤ room b.old) × (bit (word b.old (17 + (n - 1) / 32)) ((n - 1) % 32) ≡ 0) }
-    ensures { b.new ≡ set b.old (17 + (n - 1) / 32) (word b.old (17 + (n - 1) / 32) + 2 ^ ((n - 1) % 32)) }
+// Node n's bit is turned: the node is taken, or free again.
+pub fn turn_bit(b: &mut [u32], n: u32)
+    requires { Shaped b.old × (1 ≤ n) × (n ≤ room b.old) }
+    ensures { b.new ≡ set b.old (17 + (n - 1) / 32) (bit_xor (word b.old (17 + (n - 1) / 32)) (2 ^ ((n - 1) % 32))) }
 {
     let i = n - 1;
-    let w = (17 + i / 32) as usize;
-    let x = b[w];
-    b[w] = x + (1 << (i % 32));
-}
-
-// Node n's bit, which is 1, is cleared.
-pub fn free_bit(b: &mut [u32], n: u32)
-    requires { Shaped b.old × (1 ≤ n) × (n ≤ room b.old) × (bit (word b.old (17 + (n - 1) / 32)) ((n - 1) % 32) ≡ 1) }
-    ensures { b.new ≡ set b.old (17 + (n - 1) / 32) (word b.old (17 + (n - 1) / 32) - 2 ^ ((n - 1) % 32)) }
-{
-    let i = n - 1;
-    let w = (17 + i / 32) as usize;
-    let x = b[w];
-    b[w] = x - (1 << (i % 32));
+    b[(17 + i / 32) as usize] ^= 1 << (i % 32);
 }
 
 // The words of node n but its count: a free node's is 0, and nothing names a new one.

@@ -14,8 +14,7 @@ use Rattle.model.proofs.block.Loads.{tree-size}
 use Rattle.model.proofs.running.Growing.{holding_less}
 use Rattle.model.proofs.rules.Sizes.{join-size}
 use Rattle.model.proofs.rules.Steady.{balanced_onward}
-use Rattle.block.specs.declared.Made.{Made}
-use Rattle.block.specs.declared.Made.TheVariants.{At}
+use Rattle.std.specs.Prelude.{Option, Some}
 use Rattle.block.specs.declared.Node.{Node}
 use Rattle.block.specs.Outcome.{Outcome}
 use Rattle.block.proofs.Outcomes.{stock, out_size}
@@ -85,7 +84,7 @@ module _ {b c : List ℕ} {l r : ℕ} {n : Node} (D : Larger b c r l n) where
     }
 
     -- what the make above asks
-    pub right_next : {d : List ℕ} {a : ℕ} → Outcome c d (l ∷ n.left ∷ []) (At a) (join k v (tree (heap c) l) (tree (heap c) n.left)) → Asks d a n.right
+    pub right_next : {d : List ℕ} {a : ℕ} → Outcome c d (l ∷ n.left ∷ []) (Some a) (join k v (tree (heap c) l) (tree (heap c) n.left)) → Asks d a n.right
     unfolding held
     right_next {d} {a} O =
         let rule = join k v (tree (heap c) l) (tree (heap c) n.left) in
@@ -106,14 +105,14 @@ module _ {b c : List ℕ} {l r : ℕ} {n : Node} (D : Larger b c l r n) where
       by = λ e q O. rw (← (S D).tree, read-tree D.level) (rw (left_larger k v l n.key n.value x y (tree (heap c) r) (over_trees D)) (level_out D.level (r ∷ []) (λ x i. omega arith) (λ x i. omega arith) O));
     }
 
-    pub left_next : {d : List ℕ} {a : ℕ} → Outcome c d (n.right ∷ r ∷ []) (At a) (join k v (tree (heap c) n.right) (tree (heap c) r)) → Asks d n.left a
+    pub left_next : {d : List ℕ} {a : ℕ} → Outcome c d (n.right ∷ r ∷ []) (Some a) (join k v (tree (heap c) n.right) (tree (heap c) r)) → Asks d n.left a
     unfolding held
     left_next {d} {a} O =
         let rule = join k v (tree (heap c) n.right) (tree (heap c) r) in
         then_right (J D) O n.left (λ x i. omega arith) (omega (arith, out_size c d a rule (J D) (λ x i. omega arith) O, join-size k v (tree (heap c) n.right) (tree (heap c) r) (stock (J D)), sized D r (S D).named, sized D n.right (read_right D.level), bound D))
 
 -- neither side is over 3 times the other
-pub even : {b e : List ℕ} {q : Made} (k v l r : ℕ) → Asks b l r → size_at (heap b) r ≤ 3 * size_at (heap b) l → size_at (heap b) l ≤ 3 * size_at (heap b) r
+pub even : {b e : List ℕ} {q : Option ℕ} (k v l r : ℕ) → Asks b l r → size_at (heap b) r ≤ 3 * size_at (heap b) l → size_at (heap b) l ≤ 3 * size_at (heap b) r
     → Outcome b e (l ∷ r ∷ []) q (balanced k v (tree (heap b) l) (tree (heap b) r)) → Outcome b e (l ∷ r ∷ []) q (join k v (tree (heap b) l) (tree (heap b) r))
 even {b} k v l r A p q O =
     let x = tree-size (heap b) A.0.running.linked l A.1 in

@@ -2,7 +2,7 @@
 use mathlib.Core.Path.{◌≡◌, refl, ap, subst}
 use mathlib.Core.Logic.{◌≢◌}
 use Prim.Native.Nat.{ℕ, ◌+◌, ◌≤◌, ◌<◌}
-use mathlib.Core.Option.{Option, none, some}
+use mathlib.Core.Option as maybe
 use mathlib.Core.List.{List, [], ◌∷◌}
 use native.Mathlib.Omega.{arith}
 use Rattle.model.specs.Tree.{Tree, leaf, size}
@@ -18,29 +18,22 @@ use Rattle.model.proofs.running.Pieces.{holds-less}
 use Rattle.model.proofs.running.Growing.{stocked_now, came_bind, came_stop, came_apart, came_done, came_still, came_holding, holding_less}
 use Rattle.model.proofs.rules.Sizes.{split-size}
 use Rattle.model.proofs.rules.Steady.{Onward, join_onward}
-use Rattle.block.specs.declared.Made.TheVariants.{At, Full}
-use Rattle.block.specs.declared.Found.TheVariants.{Value, Absent}
+use Rattle.std.specs.Prelude.{Some, None}
 use Rattle.block.specs.declared.Node.{Node}
 use Rattle.block.specs.Outcome.{Outcome}
 use Rattle.block.proofs.Outcomes.{stock}
 use Rattle.block.proofs.Levels.{Asks, Level, read-tree, read_left, read_right, read-size, level_came, level_holds}
 use Rattle.join.specs.declared.Pieces.{Pieces}
-use Rattle.join.specs.declared.Parted.{Parted}
-use Rattle.join.specs.declared.Parted.TheVariants as parted
 use Rattle.join.specs.Division.{into, parts_of, Division}
 
--- the answer as a match has told it
-pub told_parts : {b e ps : List ℕ} {m : Make Parts} (r q : Parted) → r ≡ q → Division b e ps r m → Division b e ps q m
-told_parts {b} {e} {ps} {m} r q p D = subst (λ z. Division b e ps z m) p D
-
 -- the parts that came
-pub parts_are : {b e ps qs : List ℕ} {p : Pieces} {m : Make Parts} (H : Holding b qs) → Among ps [] qs → Division b e ps (parted.Into p) m
+pub parts_are : {b e ps qs : List ℕ} {p : Pieces} {m : Make Parts} (H : Holding b qs) → Among ps [] qs → Division b e ps (Some p) m
     → (m (stock H)).0 ≡ parts_of (heap e) p
 parts_are H i D = (D.came.gives H.entry (λ x. 0) (holds-less (λ x l. omega (arith, i x l)) H.holds) (stock H) (stocked_now H)).0
 
 -- and their sizes
 pub parts_size : {b e qs : List ℕ} {p : Pieces} (n k : ℕ) → Holding b qs → Among (n ∷ []) [] qs → Named (heap b) n
-    → Division b e (n ∷ []) (parted.Into p) (split (tree (heap b) n) k)
+    → Division b e (n ∷ []) (Some p) (split (tree (heap b) n) k)
     → size_at (heap e) p.left + size_at (heap e) p.right ≤ size_at (heap b) n
 parts_size {b} {e} {p = p} n k H i o D =
     let E = D.came.running.linked in
@@ -55,16 +48,16 @@ parts_size {b} {e} {p = p} n k H i o D =
     )
 
 -- under no node
-pub split_none : (b : List ℕ) (n k : ℕ) → n ≡ 0 → Running b → Division b b (n ∷ []) (into 0 Absent 0) (split (tree (heap b) n) k)
+pub split_none : (b : List ℕ) (n k : ℕ) → n ≡ 0 → Running b → Division b b (n ∷ []) (into 0 None 0) (split (tree (heap b) n) k)
 unfolding split tree load held
-split_none b n k e R = rw e (record { left = tt; right = tt; came = came_done b (λ x i. omega (arith, hit_no 0 x (omega arith))) (record { left = leaf; found = none; right = leaf }) R })
+split_none b n k e R = rw e (record { left = tt; right = tt; came = came_done b (λ x i. omega (arith, hit_no 0 x (omega arith))) (record { left = leaf; found = maybe.none; right = leaf }) R })
 
 -- a rule at a node that was taken apart from b to c: low splits the piece x, and top makes of the near part and of the other piece y what is put in place
 pub record Parting (b c : List ℕ) (n x y : ℕ) (goal low : Make Parts) (near : Parts → Tree) (top : Tree → Tree → Make Tree) (place : Parts → Tree → Parts) : Type 0 where
   pub holds : Holding c (y ∷ x ∷ [])
   pub small : (s : Supply) → size (near (low s).0) + size_at (heap c) y < 1048576
   pub onward : (t : Tree) → Onward (top t (tree (heap c) y))
-  pub by : (e outs : List ℕ) (z : Option Parts)
+  pub by : (e outs : List ℕ) (z : maybe.Option Parts)
       → Came Parts c e (y ∷ x ∷ []) outs z (low >>= λ p. top (near p) (tree (heap c) y) >>= λ t. done (place p t))
       → Came Parts b e (n ∷ []) outs z goal
 
@@ -72,11 +65,11 @@ module _ {b c : List ℕ} {n x y : ℕ} {goal low : Make Parts} {near : Parts �
   abbrev above : Parts → Make Parts
   above p = top (near p) (tree (heap c) y) >>= λ t. done (place p t)
 
-  pub parting_stop : {e : List ℕ} → Division c e (x ∷ []) parted.Full low → Division b e (n ∷ []) parted.Full goal
+  pub parting_stop : {e : List ℕ} → Division c e (x ∷ []) None low → Division b e (n ∷ []) None goal
   unfolding held
-  parting_stop {e} D = record { left = tt; right = tt; came = P.by e [] none (came_stop c e (λ z i. omega arith) low above D.came (λ p. P.onward (near p))) }
+  parting_stop {e} D = record { left = tt; right = tt; came = P.by e [] maybe.none (came_stop c e (λ z i. omega arith) low above D.came (λ p. P.onward (near p))) }
 
-  module _ {d : List ℕ} {p : Pieces} (D : Division c d (x ∷ []) (parted.Into p) low) where
+  module _ {d : List ℕ} {p : Pieces} (D : Division c d (x ∷ []) (Some p) low) where
     abbrev got : Parts
     got = parts_of (heap d) p
 
@@ -95,26 +88,26 @@ module _ {b c : List ℕ} {n x y : ℕ} {goal low : Make Parts} {near : Parts �
     abbrev made : Make Tree
     made = top (near got) (tree (heap c) y)
 
-    as_made : {f js outs : List ℕ} {z : Option Tree} → Came Tree d f js outs z (top (near got) (tree (heap d) y)) → Came Tree d f js outs z made
+    as_made : {f js outs : List ℕ} {z : maybe.Option Tree} → Came Tree d f js outs z (top (near got) (tree (heap d) y)) → Came Tree d f js outs z made
     as_made {f} {js} {outs} {z} C = subst (λ u. Came Tree d f js outs z (top (near got) u)) aside.tree C
 
-    after : {f outs : List ℕ} {z : Option Parts} → Came Parts d f (p.left ∷ p.right ∷ y ∷ []) outs z (made >>= λ t. done (place got t))
+    after : {f outs : List ℕ} {z : maybe.Option Parts} → Came Parts d f (p.left ∷ p.right ∷ y ∷ []) outs z (made >>= λ t. done (place got t))
         → Came Parts b f (n ∷ []) outs z goal
     unfolding held
     after {f} {outs} {z} C = P.by f outs z (came_bind c d f (y ∷ []) (λ z i. omega arith) (λ z i. omega arith) got z low above D.came C)
 
     pub parting_stop_2 : {f js : List ℕ} → Among js [] (p.left ∷ p.right ∷ y ∷ [])
-        → Outcome d f js Full (top (near got) (tree (heap d) y)) → Division b f (n ∷ []) parted.Full goal
+        → Outcome d f js None (top (near got) (tree (heap d) y)) → Division b f (n ∷ []) None goal
     parting_stop_2 {f} i J = record { left = tt; right = tt; came = after (came_stop d f i made (λ t. done (place got t)) (as_made J.came) (λ t s q. q)) }
 
     pub parting_done : {f js : List ℕ} {t : ℕ} (far : ℕ) (outs : List ℕ) → Among js (far ∷ []) (p.left ∷ p.right ∷ y ∷ [])
-        → Among outs [] (t ∷ far ∷ []) → Outcome d f js (At t) (top (near got) (tree (heap d) y))
-        → Came Parts b f (n ∷ []) outs (some (place got (tree (heap f) t))) goal
+        → Among outs [] (t ∷ far ∷ []) → Outcome d f js (Some t) (top (near got) (tree (heap d) y))
+        → Came Parts b f (n ∷ []) outs (maybe.some (place got (tree (heap f) t))) goal
     unfolding held
     parting_done {f} {js} {t} far outs i j J =
         let z : Parts = place got (tree (heap f) t) in
-        let last : Came Parts f f (t ∷ far ∷ []) outs (some z) (done z) = came_done f j z J.came.running in
-        after (came_bind d f f (far ∷ []) i (λ z i. omega arith) (tree (heap f) t) (some z) made (λ u. done (place got u)) (as_made J.came) last)
+        let last : Came Parts f f (t ∷ far ∷ []) outs (maybe.some z) (done z) = came_done f j z J.came.running in
+        after (came_bind d f f (far ∷ []) i (λ z i. omega arith) (tree (heap f) t) (maybe.some z) made (λ u. done (place got u)) (as_made J.came) last)
 
 -- node n was taken apart from b to c: it is m, and the tree below it is small
 pub record Opened (b c : List ℕ) (n : ℕ) (m : Node) : Type 0 where
@@ -153,18 +146,18 @@ module _ {b c : List ℕ} {n : ℕ} {m : Node} (N : Opened b c n m) where
   right_asks e = (omega (arith, read-size R), (holding_less children (λ x i. omega arith), read_right R, omega (arith, N.small, read-size R)))
 
   -- the node is the rule's first
-  opens : {e outs ins : List ℕ} {z : Option Parts} (rule : Make Parts) → Among ins [] (m.left ∷ m.right ∷ [])
+  opens : {e outs ins : List ℕ} {z : maybe.Option Parts} (rule : Make Parts) → Among ins [] (m.left ∷ m.right ∷ [])
       → Came Parts c e ins outs z rule → Came Parts b e (n ∷ []) outs z (apart n >> rule)
   unfolding held
   opens {e} {outs} {ins} {z} rule i C = came_apart b c e [] (λ x i. omega arith) (λ x l. omega (arith, i x l)) n z rule (level_came R) C
 
   module _ (k : ℕ) where
     -- the key is here
-    pub here : k ≡ m.key → Division b c (n ∷ []) (into m.left (Value m.value) m.right) (split (tree (heap b) n) k)
+    pub here : k ≡ m.key → Division b c (n ∷ []) (into m.left (Some m.value) m.right) (split (tree (heap b) n) k)
     unfolding split held
     here same =
-        let x : Parts = record { left = L; found = some m.value; right = T } in
-        let last : Came Parts c c (m.left ∷ m.right ∷ []) (m.left ∷ m.right ∷ []) (some x) (done x) = came_done c (λ x i. omega arith) x children.running in
+        let x : Parts = record { left = L; found = maybe.some m.value; right = T } in
+        let last : Came Parts c c (m.left ∷ m.right ∷ []) (m.left ∷ m.right ∷ []) (maybe.some x) (done x) = came_done c (λ x i. omega arith) x children.running in
         record { left = read_left R; right = read_right R; came = rw (read-tree R, split) (rw (eq_cmp k m.key same) (opens (done x) (λ x i. omega arith) last)) }
 
     -- the key is on the left: what is right of it is joined to the rest
@@ -190,19 +183,19 @@ module _ {b c : List ℕ} {n : ℕ} {m : Node} (N : Opened b c n m) where
     }
 
     module _ {d : List ℕ} {p : Pieces} where
-      module _ (lt : k < m.key) (D : Division c d (m.left ∷ []) (parted.Into p) (split L k)) where
+      module _ (lt : k < m.key) (D : Division c d (m.left ∷ []) (Some p) (split L k)) where
         pub left_next : Asks d p.right m.right
         unfolding held
         left_next = let Q = left_parting lt in (holding_less (parted_holds Q D) (λ x i. omega arith), D.right, (aside Q D).named, near_size Q D p.right refl D.right)
 
         pub left_stop : {f : List ℕ}
-            → Outcome d f (p.right ∷ m.right ∷ []) Full (join m.key m.value (tree (heap d) p.right) (tree (heap d) m.right))
-            → Division b f (n ∷ []) parted.Full (split (tree (heap b) n) k)
+            → Outcome d f (p.right ∷ m.right ∷ []) None (join m.key m.value (tree (heap d) p.right) (tree (heap d) m.right))
+            → Division b f (n ∷ []) None (split (tree (heap b) n) k)
         unfolding held
         left_stop O = parting_stop_2 (left_parting lt) D (λ x i. omega arith) O
 
         pub left_done : {f : List ℕ} {t : ℕ}
-            → Outcome d f (p.right ∷ m.right ∷ []) (At t) (join m.key m.value (tree (heap d) p.right) (tree (heap d) m.right))
+            → Outcome d f (p.right ∷ m.right ∷ []) (Some t) (join m.key m.value (tree (heap d) p.right) (tree (heap d) m.right))
             → Division b f (n ∷ []) (into p.left p.found t) (split (tree (heap b) n) k)
         unfolding held
         left_done {f} {t} O =
@@ -210,19 +203,19 @@ module _ {b c : List ℕ} {n : ℕ} {m : Node} (N : Opened b c n m) where
             let far : Still d f p.left = came_still (parted_holds Q D) O.came p.left (λ x i. omega arith) in
             record { left = far.named; right = O.named; came = rw far.tree (parting_done Q D p.left (p.left ∷ t ∷ []) (λ x i. omega arith) (λ x i. omega arith) O) }
 
-      module _ (ne : k ≢ m.key) (le : m.key ≤ k) (D : Division c d (m.right ∷ []) (parted.Into p) (split T k)) where
+      module _ (ne : k ≢ m.key) (le : m.key ≤ k) (D : Division c d (m.right ∷ []) (Some p) (split T k)) where
         pub right_next : Asks d m.left p.left
         unfolding held
         right_next = let Q = right_parting ne le in (holding_less (parted_holds Q D) (λ x i. omega arith), (aside Q D).named, D.left, omega (arith, near_size Q D p.left refl D.left))
 
         pub right_stop : {f : List ℕ}
-            → Outcome d f (m.left ∷ p.left ∷ []) Full (join m.key m.value (tree (heap d) m.left) (tree (heap d) p.left))
-            → Division b f (n ∷ []) parted.Full (split (tree (heap b) n) k)
+            → Outcome d f (m.left ∷ p.left ∷ []) None (join m.key m.value (tree (heap d) m.left) (tree (heap d) p.left))
+            → Division b f (n ∷ []) None (split (tree (heap b) n) k)
         unfolding held
         right_stop O = parting_stop_2 (right_parting ne le) D (λ x i. omega arith) O
 
         pub right_done : {f : List ℕ} {t : ℕ}
-            → Outcome d f (m.left ∷ p.left ∷ []) (At t) (join m.key m.value (tree (heap d) m.left) (tree (heap d) p.left))
+            → Outcome d f (m.left ∷ p.left ∷ []) (Some t) (join m.key m.value (tree (heap d) m.left) (tree (heap d) p.left))
             → Division b f (n ∷ []) (into t p.found p.right) (split (tree (heap b) n) k)
         unfolding held
         right_done {f} {t} O =

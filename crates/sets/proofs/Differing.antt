@@ -1,9 +1,9 @@
 -- Difference is right because code and rule ask the same: whether a side is empty, whether the two roots are one node, and if not, what stays of the left root.
-use Rattle.std.proofs.Common.{◌≡◌, ℕ, suc, ◌<◌, Bool, true, false, ◌&&◌, eqb, ◌≢◌, List, [], ◌∷◌, refl, subst, arith}
-use mathlib.Core.Option.{Option}
+use Rattle.std.proofs.Common.{◌≡◌, ℕ, suc, ◌<◌, Bool, true, false, ◌&&◌, eqb, ◌≢◌, List, [], ◌∷◌, refl, arith}
+use mathlib.Core.Option as maybe
 use Rattle.model.specs.Tree.{Tree, leaf, node}
 use Rattle.model.specs.Supply.{Make, done, apart, ◌>>=◌, ◌>>◌}
-use Rattle.model.specs.Rules.{without_key, join, split, rest, kept, difference}
+use Rattle.model.specs.Rules.{split, rest, kept, difference}
 use Rattle.model.specs.Heap.{size_at, load, tree}
 use Rattle.model.specs.Block.{heap}
 use Rattle.model.specs.Moves.{held}
@@ -12,36 +12,33 @@ use Rattle.model.proofs.block.Loads.{tree_node}
 use Rattle.model.proofs.block.Lookups.{link_occupied}
 use Rattle.model.proofs.rules.Sizes.{difference-size}
 use Rattle.model.proofs.rules.Steady.{difference_onward, rest_onward}
-use Rattle.block.specs.declared.Made.{Made}
-use Rattle.block.specs.declared.Made.TheVariants.{At}
-use Rattle.block.specs.declared.Found.{Found}
-use Rattle.block.specs.declared.Found.TheVariants.{Value, Absent}
+use Rattle.std.specs.Prelude.{Option, Some}
 use Rattle.block.specs.declared.Node.{Node}
-use Rattle.block.specs.Outcome.{Outcome, answer}
+use Rattle.block.specs.Outcome.{Outcome}
 use Rattle.block.proofs.Outcomes.{out_done}
 use Rattle.block.proofs.Levels.{Asks, read-tree}
 use Rattle.sets.proofs.Chains.{Called, Chain, Rooted, other, pieces, other_node}
 
 -- an outcome for any fuel is one
-pub settled : {b e ps : List ℕ} {q : Made} {m : Make Tree} (k : ℕ) → ((n : ℕ) → k < n → Outcome b e ps q m) → Outcome b e ps q m
+pub settled : {b e ps : List ℕ} {q : Option ℕ} {m : Make Tree} (k : ℕ) → ((n : ℕ) → k < n → Outcome b e ps q m) → Outcome b e ps q m
 settled k O = O (suc k) (omega arith)
 
 -- what a difference asks, and its left falls
 pub left_falls : {b e : List ℕ} {i c x y t : ℕ} → Called b e i c x y → size_at (heap b) i ≡ t → (size_at (heap e) x < t) × Asks e x y
 left_falls Q w = (omega (arith, Q.smaller), Q.asks)
 
-module _ (diff : ℕ → ℕ → Option ℕ) (cancel : Bool) where
+module _ (diff : ℕ → ℕ → maybe.Option ℕ) (cancel : Bool) where
   -- the rule where the right is empty
   sole : (t : Tree) → difference diff cancel t leaf ≡ done t
   unfolding difference
   sole leaf = refl
   sole (node i h w l r) = refl
 
-  pub no_left : (b : List ℕ) (l r : ℕ) → Asks b l r → l ≡ 0 → Outcome b b (l ∷ r ∷ []) (At 0) (difference diff cancel (tree (heap b) l) (tree (heap b) r))
+  pub no_left : (b : List ℕ) (l r : ℕ) → Asks b l r → l ≡ 0 → Outcome b b (l ∷ r ∷ []) (Some 0) (difference diff cancel (tree (heap b) l) (tree (heap b) r))
   unfolding difference tree load held
   no_left b l r A e = rw e (out_done b 0 (λ x i. omega arith) A.0.running tt)
 
-  pub no_right : (b : List ℕ) (l r : ℕ) → Asks b l r → r ≡ 0 → Outcome b b (l ∷ r ∷ []) (At l) (difference diff cancel (tree (heap b) l) (tree (heap b) r))
+  pub no_right : (b : List ℕ) (l r : ℕ) → Asks b l r → r ≡ 0 → Outcome b b (l ∷ r ∷ []) (Some l) (difference diff cancel (tree (heap b) l) (tree (heap b) r))
   unfolding tree load held
   no_right b l r A e = rw e (rw (sole (tree (heap b) l)) (out_done b l (λ x i. omega arith) A.0.running A.1))
 
@@ -57,7 +54,7 @@ module _ (diff : ℕ → ℕ → Option ℕ) (cancel : Bool) where
 
   -- with cancelling, identical nodes (one number) leave nothing
   pub cancelled : (b : List ℕ) (l r : ℕ) → Asks b l r → l ≢ 0 → r ≢ 0 → cancel ≡ true → eqb l r ≡ true
-      → Outcome b b (l ∷ r ∷ []) (At 0) (difference diff cancel (tree (heap b) l) (tree (heap b) r))
+      → Outcome b b (l ∷ r ∷ []) (Some 0) (difference diff cancel (tree (heap b) l) (tree (heap b) r))
   unfolding tree load held
   cancelled b l r A p q c e =
       let h = heap b in
@@ -83,17 +80,3 @@ not_cancelling cancel i j e = rw e
 pub not_shared : (cancel : Bool) (i j : ℕ) → eqb i j ≡ false → (cancel && eqb i j) ≡ false
 not_shared false i j e = refl
 not_shared true i j e = e
-
--- what stays of the root, by another name
-pub with_stays : {b e ps : List ℕ} {q : Made} (k : ℕ) (o p : Option ℕ) (l r : Tree) → o ≡ p → Outcome b e ps q (rest l k o r) → Outcome b e ps q (rest l k p r)
-with_stays {b} {e} {ps} {q} k o p l r w O = subst (λ z. Outcome b e ps q (rest l k z r)) w O
-
-pub by_join : {b e ps : List ℕ} {q : Made} (k v : ℕ) (l r : Tree) (f : Found) → f ≡ Value v → Outcome b e ps q (join k v l r)
-    → Outcome b e ps q (rest l k (answer f) r)
-unfolding rest
-by_join k v l r f e O = rw e O
-
-pub by_without : {b e ps : List ℕ} {q : Made} (k : ℕ) (l r : Tree) (f : Found) → f ≡ Absent → Outcome b e ps q (without_key join l r)
-    → Outcome b e ps q (rest l k (answer f) r)
-unfolding rest
-by_without k l r f e O = rw e O

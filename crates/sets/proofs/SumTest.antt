@@ -1,6 +1,5 @@
 -- The test of the sums is right because each side of a key is looked for where the other tree has that side's keys, and no value is above the sum that is stored over it.
-use Rattle.std.proofs.Common.{◌≡◌, ℕ, ◌+◌, ◌-◌, ◌<◌, ◌≤◌, Bool, true, false, not, ◌&&◌, leb, List, sym, refl, ap, ◌∙◌, subst, ap₂, arith, le-leb, leb-false, leb-true}
-use borrow.Author.Tests.{lt-leb}
+use Rattle.std.proofs.Common.{◌≡◌, ℕ, ◌+◌, ◌<◌, ◌≤◌, Bool, true, false, ◌&&◌, List, sym, refl, ap, ◌∙◌, subst, ap₂, arith}
 use Rattle.model.specs.Tree.{node, Entry, entries, find, lookup, Ordered}
 use Rattle.model.specs.Rules.{sum_fits, sums_fit}
 use Rattle.model.specs.Heap.{sum_at, load, tree}
@@ -11,10 +10,9 @@ use Rattle.model.proofs.block.Loads.{tree_node, tree-sum}
 use Rattle.model.proofs.block.Sums.{total-minutes}
 use Rattle.model.proofs.rules.Unions.{NodeFacts, node_facts}
 use Rattle.model.proofs.rules.Fits.{fit_none, fit_small, fit_around, fit_below, fit_above}
-use Rattle.block.specs.declared.Found.{Found}
-use Rattle.block.specs.declared.Found.TheVariants.{Value}
+use Rattle.std.specs.Prelude.{Option}
 use Rattle.block.specs.declared.Node.{Node}
-use Rattle.block.specs.Outcome.{answer}
+use Rattle.answers.specs.Answers.{answer}
 use Rattle.tree.specs.Gathered.{Summable}
 use Rattle.tree.proofs.Gathers.{AtNode, at_occupied, left_summable, right_summable}
 use Rattle.sets.specs.declared.sums.Sides.{Sides}
@@ -51,14 +49,6 @@ module _ {b : List ℕ} {n : ℕ} {m : Node} (A : AtNode b n m) where
     pub key_same : m.key ≤ key → key ≤ m.key → Narrowed b n key (record { low = m.left; high = m.right })
     key_same p q = record { low = left_summable A; high = right_summable A; below = λ k lt. on_left k (omega arith); above = λ k lt. on_right k (omega arith) }
 
--- one sum, asked before it could wrap
-pub found_sum : (x y : ℕ) (f : Found) → x ≤ 4294967295 → f ≡ Value y → leb y (4294967295 - x) ≡ sum_fits x (answer f)
-found_sum x y f le e = go (leb y (4294967295 - x)) refl ∙ ap (λ z. sum_fits x (answer z)) (sym e)
-  where
-    go : (t : Bool) → leb y (4294967295 - x) ≡ t → leb y (4294967295 - x) ≡ leb (x + y) 4294967295
-    go true p = p ∙ sym (le-leb (x + y) 4294967295 (omega (arith, leb-true y (4294967295 - x) p)))
-    go false p = p ∙ sym (lt-leb (x + y) 4294967295 (omega (arith, leb-false y (4294967295 - x) p)))
-
 -- an empty side, and sums that are small together
 pub left_none : (b : List ℕ) (l r : ℕ) → l ≡ 0 → true ≡ sums_fit (below b l) (below b r)
 unfolding sums_fit entries tree load
@@ -74,15 +64,6 @@ both_small {b} {l} {r} L R p q le = sym (fit_small (below b l) (below b r) (omeg
   where
     held : {n : ℕ} → Summable b n → minutes (below b n) ≡ sum_at (heap b) n
     held {n} S = sym (total-minutes (tree (heap b) n)) ∙ tree-sum (heap b) S.linked n S.named
-
--- what a test told
-refuted : (t : Bool) → not t ≡ true → t ≡ false
-refuted true p = sym p
-refuted false p = refl
-
-affirmed : (t : Bool) → not t ≡ false → t ≡ true
-affirmed true p = refl
-affirmed false p = sym p
 
 -- the root of the left tree, and the sides of its key in the right one
 module _ {b : List ℕ} {l r : ℕ} {m : Node} {s : Sides} (A : AtNode b l m) (R : Summable b r) (N : Narrowed b r m.key s) where
@@ -103,19 +84,19 @@ module _ {b : List ℕ} {l r : ℕ} {m : Node} {s : Sides} (A : AtNode b l m) (R
       let over = fit_above (below b m.right) (below b s.high) (below b r) m.key o.1 N.above in
       ap₂ (λ x y. x && (here && y)) under over ∙ sym (fit_around (below b m.left) m.key m.value (below b m.right) (below b r)) ∙ ap (λ t. sums_fit (entries t) (below b r)) (sym (read-tree A))
 
-  module _ (t : Bool) (e : t ≡ lower) where
-    pub low_exceeds : not t ≡ true → false ≡ sums_fit (below b l) (below b r)
-    low_exceeds p = ap (λ x. x && (here && upper)) (sym (refuted t p) ∙ e) ∙ level
+  module _ {t : Bool} (e : t ≡ lower) where
+    pub low_exceeds : t ≡ false → false ≡ sums_fit (below b l) (below b r)
+    low_exceeds p = ap (λ x. x && (here && upper)) (sym p ∙ e) ∙ level
 
-    module _ (low : not t ≡ false) (f : Found) (q : answer f ≡ lookup (tree (heap b) r) m.key) (u : Bool) (g : u ≡ sum_fits m.value (answer f)) where
+    module _ (p : t ≡ true) (f : Option ℕ) (q : answer f ≡ lookup (tree (heap b) r) m.key) {u : Bool} (g : u ≡ sum_fits m.value (answer f)) where
       at : u ≡ here
       at = g ∙ ap (sum_fits m.value) (q ∙ lookup-entries (tree (heap b) r) m.key R.ordered)
 
       on : (here && upper) ≡ sums_fit (below b l) (below b r)
-      on = ap (λ x. x && (here && upper)) (sym (affirmed t low) ∙ e) ∙ level
+      on = ap (λ x. x && (here && upper)) (sym p ∙ e) ∙ level
 
-      pub key_exceeds : not u ≡ true → false ≡ sums_fit (below b l) (below b r)
-      key_exceeds p = ap (λ x. x && upper) (sym (refuted u p) ∙ at) ∙ on
+      pub key_exceeds : u ≡ false → false ≡ sums_fit (below b l) (below b r)
+      key_exceeds h = ap (λ x. x && upper) (sym h ∙ at) ∙ on
 
-      pub high_decides : not u ≡ false → (w : Bool) → w ≡ upper → w ≡ sums_fit (below b l) (below b r)
-      high_decides p w z = z ∙ ap (λ x. x && upper) (sym (affirmed u p) ∙ at) ∙ on
+      pub high_decides : u ≡ true → {w : Bool} → w ≡ upper → w ≡ sums_fit (below b l) (below b r)
+      high_decides h z = z ∙ ap (λ x. x && upper) (sym h ∙ at) ∙ on

@@ -9,8 +9,7 @@ use Rattle.model.specs.Block.{heap}
 use Rattle.model.specs.Moves.{held, Apart}
 use Rattle.model.proofs.rules.Sizes.{union_by-size}
 use Rattle.model.proofs.rules.Steady.{union_by_onward, join_onward}
-use Rattle.block.specs.declared.Made.{Made}
-use Rattle.block.specs.declared.Made.TheVariants.{At}
+use Rattle.std.specs.Prelude.{Option, Some}
 use Rattle.block.specs.declared.Node.{Node}
 use Rattle.block.specs.Outcome.{Outcome, node_of}
 use Rattle.block.proofs.Outcomes.{out_done, out_less}
@@ -19,22 +18,18 @@ use Rattle.tree.proofs.Balancing.{swapped}
 use Rattle.sets.specs.United.{United, picked, merged}
 use Rattle.sets.proofs.Chains.{Fed, Called, Chain, Rooted, rooted, other, root_size, other_size, other_some}
 
--- the answer as a match has told it
-pub told_union : {b e : List ℕ} {merge : ℕ → ℕ → ℕ} {l r : ℕ} (q z : Made) → q ≡ z → United b e q merge l r → United b e z merge l r
-told_union {b} {e} {merge} {l} {r} q z p U = subst (λ w. United b e w merge l r) p U
-
-straight : {b e : List ℕ} {q : Made} {merge : ℕ → ℕ → ℕ} {l r : ℕ} → Fed b e q (union_by merge) l r → United b e q merge l r
+straight : {b e : List ℕ} {q : Option ℕ} {merge : ℕ → ℕ → ℕ} {l r : ℕ} → Fed b e q (union_by merge) l r → United b e q merge l r
 straight O = record { any = O }
 
 -- the two trees the other way round
 abbrev turned : (ℕ → ℕ → ℕ) → ℕ → Tree → Tree → Make Tree
 turned merge n t u = union_by merge n u t
 
-turn : {b e : List ℕ} {q : Made} {merge : ℕ → ℕ → ℕ} {l r : ℕ} → United b e q merge l r → Fed b e q (turned merge) r l
+turn : {b e : List ℕ} {q : Option ℕ} {merge : ℕ → ℕ → ℕ} {l r : ℕ} → United b e q merge l r → Fed b e q (turned merge) r l
 unfolding held
 turn U n lt = out_less (λ x i. omega arith) (U.any n (omega arith))
 
-turn-back : {b e : List ℕ} {q : Made} {merge : ℕ → ℕ → ℕ} {l r : ℕ} → Fed b e q (turned merge) r l → United b e q merge l r
+turn-back : {b e : List ℕ} {q : Option ℕ} {merge : ℕ → ℕ → ℕ} {l r : ℕ} → Fed b e q (turned merge) r l → United b e q merge l r
 unfolding held
 turn-back O = record { any = λ n lt. out_less (λ x i. omega arith) (O n (omega arith)) }
 
@@ -55,19 +50,19 @@ unfolding union_by
 sole merge n leaf = refl
 sole merge n (node i h w l r) = refl
 
-pub left_empty : {b : List ℕ} {l r : ℕ} (merge : ℕ → ℕ → ℕ) → Asks b l r → l ≡ 0 → United b b (At r) merge l r
+pub left_empty : {b : List ℕ} {l r : ℕ} (merge : ℕ → ℕ → ℕ) → Asks b l r → l ≡ 0 → United b b (Some r) merge l r
 unfolding union_by tree load held
 left_empty {b} {l} {r} merge A e = record { any = go }
   where
-    go : Fed b b (At r) (union_by merge) l r
+    go : Fed b b (Some r) (union_by merge) l r
     go zero lt = absurd (omega arith)
     go (suc n) lt = rw e (out_done b r (λ x i. omega arith) A.0.running A.2)
 
-pub right_empty : {b : List ℕ} {l r : ℕ} (merge : ℕ → ℕ → ℕ) → Asks b l r → r ≡ 0 → United b b (At l) merge l r
+pub right_empty : {b : List ℕ} {l r : ℕ} (merge : ℕ → ℕ → ℕ) → Asks b l r → r ≡ 0 → United b b (Some l) merge l r
 unfolding tree load held
 right_empty {b} {l} {r} merge A e = record { any = go }
   where
-    go : Fed b b (At l) (union_by merge) l r
+    go : Fed b b (Some l) (union_by merge) l r
     go zero lt = absurd (omega arith)
     go (suc n) lt = rw e (rw (sole merge n (tree (heap b) l)) (out_done b l (λ x i. omega arith) A.0.running A.1))
 
@@ -111,10 +106,6 @@ module _ {b o : List ℕ} {i c : ℕ} {m : Node} (R : Rooted b o i c m) (merge :
     is = λ n. rw (← (other R).tree, read-tree R.level) (by_right merge n (tree (heap o) c) i m.key m.value (tree (heap o) m.left) (tree (heap o) m.right) (other_some R) (omega (arith, root_size R, other_size R)));
   }
 
--- the value that was merged
-pub with_value : {b e ps : List ℕ} {q : Made} (k v w : ℕ) (l r : Tree) → v ≡ w → Outcome b e ps q (join k v l r) → Outcome b e ps q (join k w l r)
-with_value {b} {e} {ps} {q} k v w l r p O = subst (λ z. Outcome b e ps q (join k z l r)) p O
-
 -- Two nodes l and r of b: the root that is taken is i and the other tree c, l's root where `first`. Each law serves both ways.
 pub record Taken (b : List ℕ) (l r : ℕ) (first : Bool) (i c : ℕ) : Type 0 where
   pub asks : Asks b l r
@@ -137,7 +128,7 @@ other_one true T = rw T.other T.right_some
 other_one false T = rw T.other T.left_some
 
 -- a union of two trees, the one at the root first
-abbrev low_of : Bool → (ℕ → ℕ → ℕ) → ℕ → Tree → Tree → Make Tree
+abbrev pub low_of : Bool → (ℕ → ℕ → ℕ) → ℕ → Tree → Tree → Make Tree
 low_of true merge = union_by merge
 low_of false merge = turned merge
 
@@ -164,13 +155,13 @@ pub parts_asks : {b e : List ℕ} {l r i c x y u v t : ℕ} (first : Bool) → T
 parts_asks true T g h Q w = rw (g, h) (left_asks Q (rw (T.root, T.other) w))
 parts_asks false T g h Q w = rw (g, h) (right_asks Q (rw (T.root, T.other) w))
 
-pub parts_fed : {b e : List ℕ} {z : Made} {merge : ℕ → ℕ → ℕ} {u v : ℕ} (first : Bool) (x y : ℕ) → u ≡ picked first x y
+pub parts_fed : {b e : List ℕ} {z : Option ℕ} {merge : ℕ → ℕ → ℕ} {u v : ℕ} (first : Bool) (x y : ℕ) → u ≡ picked first x y
     → v ≡ picked first y x → United b e z merge u v → Fed b e z (low_of first merge) x y
 parts_fed {b} {e} {z} {merge} true x y g h U = let W : United b e z merge x y = rw (g, h) at U in W.any
 parts_fed {b} {e} {z} {merge} false x y g h U = let W : United b e z merge y x = rw (g, h) at U in turn W
 
 -- the level has come to an end
-pub root_ends : {b e : List ℕ} {z : Made} {merge : ℕ → ℕ → ℕ} {l r i c : ℕ} (first : Bool) → Taken b l r first i c
+pub root_ends : {b e : List ℕ} {z : Option ℕ} {merge : ℕ → ℕ → ℕ} {l r i c : ℕ} (first : Bool) → Taken b l r first i c
     → ((fuel : ℕ) → size_at (heap b) i + size_at (heap b) c < fuel → Outcome b e (i ∷ c ∷ []) z (union_by merge fuel (tree (heap b) l) (tree (heap b) r)))
     → United b e z merge l r
 root_ends {b} {e} {z} {merge} {l} {r} true T O = straight (λ n lt. subst (λ w. Outcome b e w z (union_by merge n (tree (heap b) l) (tree (heap b) r))) (rw (T.root, T.other) refl) (O n (rw (T.root, T.other) lt)))

@@ -1,3 +1,4 @@
 pub mod United
 pub mod Words
 pub mod Narrowed
+pub mod Numbers

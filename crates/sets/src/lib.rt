@@ -1,29 +1,31 @@
 // The union and the difference of two trees.
 #![tactic(auto)]
 
-ghost use Rattle.std.specs.Prelude.{◌≡◌, ◌+◌, ◌<◌, [], ◌∷◌, nat_le};
-ghost use Rattle.model.specs.Heap.{Named, Linked, size_at, tree};
+ghost use Rattle.std.specs.Prelude.{◌≡◌, nat_le};
+ghost use Rattle.model.specs.Heap.{Named, Linked, size_at};
 ghost use Rattle.model.specs.Block.{heap, Shaped};
-ghost use Rattle.model.specs.Moves.{Holding};
 ghost use Rattle.model.specs.Rules.{rest, difference, diff_by};
-ghost use Rattle.block.specs.Outcome.{Outcome, answer};
+ghost use Rattle.answers.specs.Answers.{answer};
 ghost use Rattle.block.specs.Low.{Low};
+ghost use Rattle.block.specs.Pairs.{Pair, Combined};
 ghost use Rattle.sets.specs.United.{United, picked};
 ghost use Rattle.sets.specs.Words.{word_by};
+ghost use Rattle.sets.specs.Numbers.{union_number, difference_number};
 
-use crate::values::{kept, merged};
+pub use crate::values::{DifferenceRule, UnionRule};
 use block::apart::take_apart;
-use block::{Found, Made, again, size_at};
-use join::{Parted, join, split, without_key};
+use block::size_at;
+use join::{join, split, without_key};
 
 pub mod sums;
 mod values;
 
-// The first of two numbers, or the second.
-fn pick(first: bool, x: u32, y: u32) -> u32
-    ensures { result ≡ picked first x y }
+// Two numbers in order, or turned round.
+fn in_order(straight: bool, x: u32, y: u32) -> (u32, u32)
+    ensures first { result.0 ≡ picked straight x y }
+    ensures second { result.1 ≡ picked straight y x }
 {
-    if first { x } else { y }
+    if straight { (x, y) } else { (y, x) }
 }
 
 // Whether the left tree is at least as large as the right.
@@ -36,46 +38,44 @@ fn left_first(b: &[u32], left: u32, right: u32) -> bool
 
 // Takes the larger tree's root, the left's on equal sizes, so that the smaller is the one split; parts are united as (left, right) whichever root it was.
 // Both ways are one code: with its calls written twice a level would take more stack (docs/PERFORMANCE.md), and a chain has 4,096 levels.
-pub fn union(b: &mut [u32], low: &mut u32, rule: u32, left: u32, right: u32) -> Made
-    requires { (Holding b.old (left ∷ right ∷ []) × Named (heap b.old) left × Named (heap b.old) right × (size_at (heap b.old) left + size_at (heap b.old) right < 1048576)) × Low b.old low.old }
-    ensures { United b.old b.new result (word_by rule) left right × Low b.new low.new }
+pub fn union(b: &mut [u32], low: &mut u32, rule: UnionRule, left: u32, right: u32) -> Option<u32>
+    requires { Pair b.old left right × Low b.old low.old }
+    ensures { United b.old b.new result (word_by (union_number rule)) left right × Low b.new low.new }
 {
     if left == 0 {
-        return Made::At(right);
+        return Some(right);
     }
     if right == 0 {
-        return Made::At(left);
+        return Some(left);
     }
     let first = left_first(b, left, right);
-    let root = pick(first, left, right);
-    let other = pick(first, right, left);
+    let (root, other) = in_order(first, left, right);
     let n = take_apart(b, low, root);
-    let Parted::Into(p) = split(b, low, other, n.key) else {
-        return Made::Full;
-    };
-    let found = p.found;
-    let value = merged(rule, first, n.value, found);
-    let x = pick(first, n.left, p.left);
-    let y = pick(first, p.left, n.left);
-    let Made::At(new_left) = union(b, low, rule, x, y) else {
-        return Made::Full;
-    };
-    let z = pick(first, n.right, p.right);
-    let w = pick(first, p.right, n.right);
-    let Made::At(new_right) = union(b, low, rule, z, w) else {
-        return Made::Full;
-    };
-    again(join(b, low, n.key, value, new_left, new_right))
+    let p = split(b, low, other, n.key)?;
+    let value = rule.merged(first, n.value, p.found);
+    let (left_below, right_below) = in_order(first, n.left, p.left);
+    let new_left = union(b, low, rule, left_below, right_below)?;
+    let (left_above, right_above) = in_order(first, n.right, p.right);
+    let new_right = union(b, low, rule, left_above, right_above)?;
+    join(b, low, n.key, value, new_left, new_right)
 }
 
 // The two sides with the root's entry between them where it stays, else without it.
-fn rest(b: &mut [u32], low: &mut u32, left: u32, key: u32, stays: Found, right: u32) -> Made
-    requires { (Holding b.old (left ∷ right ∷ []) × Named (heap b.old) left × Named (heap b.old) right × (size_at (heap b.old) left + size_at (heap b.old) right < 1048576)) × Low b.old low.old }
-    ensures { Outcome b.old b.new (left ∷ right ∷ []) result (rest (tree (heap b.old) left) key (answer stays) (tree (heap b.old) right)) × Low b.new low.new }
+#[tactic(auto, unfolding(model::specs::Rules::rest))]
+fn rest(
+    b: &mut [u32],
+    low: &mut u32,
+    left: u32,
+    key: u32,
+    stays: Option<u32>,
+    right: u32,
+) -> Option<u32>
+    requires { Pair b.old left right × Low b.old low.old }
+    ensures { Combined b.old b.new left right result (λ l r. rest l key (answer stays) r) × Low b.new low.new }
 {
     match stays {
-        Found::Value(value) => again(join(b, low, key, value, left, right)),
-        Found::Absent => again(without_key(b, low, left, right)),
+        Some(value) => join(b, low, key, value, left, right),
+        None => without_key(b, low, left, right),
     }
 }
 
@@ -83,34 +83,27 @@ fn rest(b: &mut [u32], low: &mut u32, left: u32, key: u32, stays: Found, right: 
 pub fn difference(
     b: &mut [u32],
     low: &mut u32,
-    rule: u32,
+    rule: DifferenceRule,
     cancel: bool,
     left: u32,
     right: u32,
-) -> Made
-    requires { (Holding b.old (left ∷ right ∷ []) × Named (heap b.old) left × Named (heap b.old) right × (size_at (heap b.old) left + size_at (heap b.old) right < 1048576)) × Low b.old low.old }
-    ensures { Outcome b.old b.new (left ∷ right ∷ []) result (difference (diff_by rule) cancel (tree (heap b.old) left) (tree (heap b.old) right)) × Low b.new low.new }
+) -> Option<u32>
+    requires { Pair b.old left right × Low b.old low.old }
+    ensures { Combined b.old b.new left right result (difference (diff_by (difference_number rule)) cancel) × Low b.new low.new }
 {
     if left == 0 {
-        return Made::At(0);
+        return Some(0);
     }
     if right == 0 {
-        return Made::At(left);
+        return Some(left);
     }
     if cancel && left == right {
-        return Made::At(0);
+        return Some(0);
     }
     let l = take_apart(b, low, left);
-    let Parted::Into(r) = split(b, low, right, l.key) else {
-        return Made::Full;
-    };
-    let found = r.found;
-    let stays = kept(rule, l.value, found);
-    let Made::At(new_left) = difference(b, low, rule, cancel, l.left, r.left) else {
-        return Made::Full;
-    };
-    let Made::At(new_right) = difference(b, low, rule, cancel, l.right, r.right) else {
-        return Made::Full;
-    };
-    again(rest(b, low, new_left, l.key, stays, new_right))
+    let r = split(b, low, right, l.key)?;
+    let stays = rule.kept(l.value, r.found);
+    let new_left = difference(b, low, rule, cancel, l.left, r.left)?;
+    let new_right = difference(b, low, rule, cancel, l.right, r.right)?;
+    rest(b, low, new_left, l.key, stays, new_right)
 }

@@ -4,11 +4,13 @@ ghost use Rattle.model.specs.Tree.{entries};
 ghost use Rattle.model.specs.Rules.{sum_fits, sums_fit, fits};
 ghost use Rattle.model.specs.Heap.{tree};
 ghost use Rattle.model.specs.Block.{heap};
-ghost use Rattle.block.specs.Outcome.{answer};
+ghost use Rattle.answers.specs.Answers.{answer};
 ghost use Rattle.tree.specs.Gathered.{Summable};
 ghost use Rattle.sets.specs.Narrowed.{Narrowed};
+ghost use Rattle.sets.specs.Numbers.{union_number};
 
-use block::{Found, read, sum_at};
+use crate::UnionRule;
+use block::{read, sum_at};
 use tree::find;
 
 // Where the keys below a key are, and those above it.
@@ -43,12 +45,12 @@ fn beside(b: &[u32], n: u32, key: u32) -> Sides
 }
 
 // A left value with what the right has under its key.
-fn sum_fits(x: u32, found: Found) -> bool
+fn sum_fits(x: u32, found: Option<u32>) -> bool
     ensures { result ≡ sum_fits x (answer found) }
 {
     match found {
-        Found::Value(y) => y <= 4294967295 - x,
-        Found::Absent => true,
+        Some(y) => y <= u32::MAX - x,
+        None => true,
     }
 }
 
@@ -57,33 +59,24 @@ fn sums_fit(b: &[u32], left: u32, right: u32) -> bool
     requires { Summable b.now left × Summable b.now right }
     ensures { result ≡ sums_fit (entries (tree (heap b.now) left)) (entries (tree (heap b.now) right)) }
 {
-    if left == 0 {
+    if left == 0 || right == 0 {
         return true;
     }
-    if right == 0 {
-        return true;
-    }
-    if sum_at(b, left) + sum_at(b, right) <= 4294967295 {
+    if sum_at(b, left) + sum_at(b, right) <= u64::from(u32::MAX) {
         return true;
     }
     let l = read(b, left);
     let r = beside(b, right, l.key);
-    if !sums_fit(b, l.left, r.low) {
-        return false;
-    }
-    if !sum_fits(l.value, find(b, right, l.key)) {
-        return false;
-    }
-    sums_fit(b, l.right, r.high)
+    sums_fit(b, l.left, r.low)
+        && sum_fits(l.value, find(b, right, l.key))
+        && sums_fit(b, l.right, r.high)
 }
 
-// What the rule asks of two trees: rule 4, that every sum fits.
-pub fn fits(b: &[u32], rule: u32, left: u32, right: u32) -> bool
+// What the rule asks of two trees: that of the sum, that every sum fits.
+#[tactic(auto, unfolding(model::specs::Rules::fits))]
+pub fn fits(b: &[u32], rule: UnionRule, left: u32, right: u32) -> bool
     requires { Summable b.now left × Summable b.now right }
-    ensures { result ≡ fits rule (entries (tree (heap b.now) left)) (entries (tree (heap b.now) right)) }
+    ensures { result ≡ fits (union_number rule) (entries (tree (heap b.now) left)) (entries (tree (heap b.now) right)) }
 {
-    if rule != 4 {
-        return true;
-    }
-    sums_fit(b, left, right)
+    rule != UnionRule::Sum || sums_fit(b, left, right)
 }

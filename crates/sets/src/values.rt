@@ -1,88 +1,127 @@
-// The value of a key that both trees have, by the rule's number.
+// The rules of unions and differences: what is kept of a key that both trees have.
 ghost use Rattle.std.specs.Prelude.{◌≡◌};
-ghost use Rattle.model.specs.Rules.{merged_left, merged_right, kept, diff_by};
-ghost use Rattle.block.specs.Outcome.{answer};
+ghost use Rattle.model.specs.Rules.{kept, diff_by};
+ghost use Rattle.answers.specs.Answers.{answer};
 ghost use Rattle.sets.specs.United.{merged};
 ghost use Rattle.sets.specs.Words.{word_by};
+ghost use Rattle.sets.specs.Numbers.{union_number, difference_number, UnionRuleOf, DifferenceRuleOf};
 
-use block::Found;
-use std::num::wrapping_add_u32;
+use answers::Refusal;
 
-// Union rules: 0 left, 1 right, 2 smaller, 3 larger, 4 sum. A sum that does not fit wraps here; the call has refused it before.
-// By `<` first: four tests of equality in a row become a table of places to jump to, which is constant data.
-fn merge(rule: u32, x: u32, y: u32) -> u32
-    ensures { result ≡ word_by rule x y }
-{
-    if 3 < rule {
-        return wrapping_add_u32(x, y);
-    }
-    if rule < 2 {
-        return if rule == 0 { x } else { y };
-    }
-    if rule == 2 {
-        return if x < y { x } else { y };
-    }
-    if x < y { y } else { x }
+/// What a union keeps of a key that both trees have: the left value, the right, the smaller, the larger, or the sum of the two.
+#[derive(Clone, Copy, Debug, PartialEq, Eq)]
+pub enum UnionRule {
+    Left,
+    Right,
+    Smaller,
+    Larger,
+    Sum,
 }
 
-// The value of a left key, merged where the right has the key.
-fn merge_left(rule: u32, x: u32, right: Found) -> u32
-    ensures { result ≡ merged_left (word_by rule) x (answer right) }
-{
-    match right {
-        Found::Value(y) => merge(rule, x, y),
-        Found::Absent => x,
-    }
-}
+impl TryFrom<u32> for UnionRule {
+    type Error = Refusal;
 
-// The value of a right key, merged as (left value, right value) where the left has the key.
-fn merge_right(rule: u32, left: Found, y: u32) -> u32
-    ensures { result ≡ merged_right (word_by rule) (answer left) y }
-{
-    match left {
-        Found::Value(x) => merge(rule, x, y),
-        Found::Absent => y,
-    }
-}
+    ghost try_from_gives = { UnionRuleOf };
 
-// The value of the root's key, where the other tree may have the key too; `first` says that the root is the left tree's.
-pub fn merged(rule: u32, first: bool, value: u32, other: Found) -> u32
-    ensures { result ≡ merged first (word_by rule) value (answer other) }
-{
-    if first {
-        return merge_left(rule, value, other);
-    }
-    merge_right(rule, other, value)
-}
-
-// Difference rules for a common key: 0 drop; 1 drop if equal, else left; 2 left; 3 left minus right if larger, else drop.
-fn diff(rule: u32, x: u32, y: u32) -> Found
-    ensures { answer result ≡ diff_by rule x y }
-{
-    if rule == 0 {
-        return Found::Absent;
-    }
-    if rule == 1 {
-        if x == y {
-            return Found::Absent;
+    fn try_from(number: u32) -> Result<UnionRule, Refusal> {
+        match number {
+            0 => Ok(UnionRule::Left),
+            1 => Ok(UnionRule::Right),
+            2 => Ok(UnionRule::Smaller),
+            3 => Ok(UnionRule::Larger),
+            4 => Ok(UnionRule::Sum),
+            _ => Err(Refusal::Rule),
         }
-        return Found::Value(x);
     }
-    if rule == 2 {
-        return Found::Value(x);
-    }
-    if y < x {
-        return Found::Value(x - y);
-    }
-    Found::Absent
 }
 
-// The value of a left key, or that it goes: the rule decides where the right has the key.
-pub fn kept(rule: u32, x: u32, right: Found) -> Found
-    ensures { answer result ≡ kept (diff_by rule) x (answer right) }
-{
-    match right {
-        Found::Value(y) => diff(rule, x, y),
-        Found::Absent => Found::Value(x),
+impl UnionRule {
+    // A sum that does not fit wraps here; the call has refused it before.
+    // Two rules at a time: a `match` over all five becomes a table of places to jump to, which is constant data.
+    #[tactic(auto, unfolding(crate::specs::Words::word_by, model::specs::Rules::merge_by))]
+    fn merge(self, x: u32, y: u32) -> u32
+        ensures { result ≡ word_by (union_number self) x y }
+    {
+        if self == UnionRule::Sum {
+            return x.wrapping_add(y);
+        }
+        if matches!(self, UnionRule::Left | UnionRule::Right) {
+            return if self == UnionRule::Left { x } else { y };
+        }
+        if self == UnionRule::Smaller {
+            x.min(y)
+        } else {
+            x.max(y)
+        }
+    }
+
+    // The value of the root's key, merged with the other tree's where that has the key too. `first` says that the root is the left tree's.
+    pub(crate) fn merged(self, first: bool, value: u32, other: Option<u32>) -> u32
+        ensures { result ≡ merged first (word_by (union_number self)) value (answer other) }
+    {
+        let Some(other) = other else {
+            return value;
+        };
+        if first {
+            self.merge(value, other)
+        } else {
+            self.merge(other, value)
+        }
+    }
+}
+
+/// What a difference keeps of a left key that the right has too: nothing, the left value unless the two are equal, the left value, or left minus right where that is above 0.
+#[derive(Clone, Copy, Debug, PartialEq, Eq)]
+pub enum DifferenceRule {
+    Drop,
+    DropEqual,
+    Left,
+    Minus,
+}
+
+impl TryFrom<u32> for DifferenceRule {
+    type Error = Refusal;
+
+    ghost try_from_gives = { DifferenceRuleOf };
+
+    fn try_from(number: u32) -> Result<DifferenceRule, Refusal> {
+        match number {
+            0 => Ok(DifferenceRule::Drop),
+            1 => Ok(DifferenceRule::DropEqual),
+            2 => Ok(DifferenceRule::Left),
+            3 => Ok(DifferenceRule::Minus),
+            _ => Err(Refusal::Rule),
+        }
+    }
+}
+
+impl DifferenceRule {
+    // Two rules at a time, for the same reason.
+    #[tactic(auto, unfolding(model::specs::Rules::diff_by))]
+    fn diff(self, x: u32, y: u32) -> Option<u32>
+        ensures { answer result ≡ diff_by (difference_number self) x y }
+    {
+        if matches!(self, DifferenceRule::Drop | DifferenceRule::Minus) {
+            return if self == DifferenceRule::Minus && y < x {
+                Some(x - y)
+            } else {
+                None
+            };
+        }
+        if self == DifferenceRule::DropEqual && x == y {
+            None
+        } else {
+            Some(x)
+        }
+    }
+
+    // The value of a left key, or that it goes: the rule decides where the right has the key.
+    pub(crate) fn kept(self, x: u32, right: Option<u32>) -> Option<u32>
+        ensures { answer result ≡ kept (diff_by (difference_number self)) x (answer right) }
+    {
+        match right {
+            Some(y) => self.diff(x, y),
+            None => Some(x),
+        }
     }
 }

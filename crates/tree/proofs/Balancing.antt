@@ -13,11 +13,11 @@ use Rattle.model.specs.Moves.{held, Among, Holding, Still}
 use Rattle.model.proofs.block.Loads.{tree-size}
 use Rattle.model.proofs.running.Growing.{came_still, came_holding, holding_less}
 use Rattle.model.proofs.rules.Steady.{make_onward}
-use Rattle.block.specs.declared.Made.{Made}
-use Rattle.block.specs.declared.Made.TheVariants.{At, Full}
+use Rattle.std.specs.Prelude.{Option, Some, None}
 use Rattle.block.specs.declared.Node.{Node}
 use Rattle.block.specs.Outcome.{Outcome}
 use Rattle.block.proofs.Outcomes.{out_bind, out_stop}
+use Rattle.block.specs.Pairs.{Pair}
 use Rattle.block.proofs.Levels.{Asks, Level, read-tree, read_left, read_right, read-size, level_holds, level_still, level_out, out_made, then_still, then_left, then_right, Above, sized_occupied}
 
 -- twice: the middle node m was taken apart from b to c, and is n
@@ -55,7 +55,7 @@ module _ {b c : List ℕ} {k v l m h w r : ℕ} {n : Node} (M : Middle b c k v l
   abbrev then : Tree → Make Tree
   then a = two >>= λ z. make n.key n.value a z
 
-  whole : {e : List ℕ} {q : Made} → Outcome c e (l ∷ n.left ∷ n.right ∷ r ∷ []) q (one >>= then) → Outcome b e (l ∷ m ∷ r ∷ []) q goal
+  whole : {e : List ℕ} {q : Option ℕ} → Outcome c e (l ∷ n.left ∷ n.right ∷ r ∷ []) q (one >>= then) → Outcome b e (l ∷ m ∷ r ∷ []) q goal
   unfolding twice held
   whole {e} {q} O = rw (read-tree M.level, ← L.tree, ← R.tree, twice) (level_out M.level (l ∷ r ∷ []) (λ x i. omega arith) (λ x i. omega arith) O)
 
@@ -63,11 +63,11 @@ module _ {b c : List ℕ} {k v l m h w r : ℕ} {n : Node} (M : Middle b c k v l
   unfolding held
   twice-asks = (holding_less H (λ x i. omega arith), L.named, read_left M.level, omega (arith, sz))
 
-  pub twice_stop : {e : List ℕ} → Outcome c e (l ∷ n.left ∷ []) Full one → Outcome b e (l ∷ m ∷ r ∷ []) Full goal
+  pub twice_stop : {e : List ℕ} → Outcome c e (l ∷ n.left ∷ []) None one → Outcome b e (l ∷ m ∷ r ∷ []) None goal
   unfolding held
   twice_stop {e} O = whole (out_stop c e one then (λ x i. omega arith) O (λ a s p. make_onward n.key n.value a (two s).0 (two s).1 (make_onward h w (tree (heap c) n.right) (tree (heap c) r) s p)))
 
-  module _ {d : List ℕ} {x : ℕ} (O : Outcome c d (l ∷ n.left ∷ []) (At x) one) where
+  module _ {d : List ℕ} {x : ℕ} (O : Outcome c d (l ∷ n.left ∷ []) (Some x) one) where
     Y : Still c d n.right
     unfolding held
     Y = came_still H O.came n.right (λ x i. omega arith)
@@ -87,18 +87,18 @@ module _ {b c : List ℕ} {k v l m h w r : ℕ} {n : Node} (M : Middle b c k v l
     abbrev second : Make Tree
     second = make h w (tree (heap d) n.right) (tree (heap d) r)
 
-    back : {e : List ℕ} {q : Made} → Outcome d e (n.right ∷ r ∷ []) q second → Outcome d e (n.right ∷ r ∷ []) q two
+    back : {e : List ℕ} {q : Option ℕ} → Outcome d e (n.right ∷ r ∷ []) q second → Outcome d e (n.right ∷ r ∷ []) q two
     back P = rw (← Y.tree, ← Z.tree) P
 
-    first : {e : List ℕ} {q : Made} → Outcome d e (x ∷ n.right ∷ r ∷ []) q (then (tree (heap d) x)) → Outcome b e (l ∷ m ∷ r ∷ []) q goal
+    first : {e : List ℕ} {q : Option ℕ} → Outcome d e (x ∷ n.right ∷ r ∷ []) q (then (tree (heap d) x)) → Outcome b e (l ∷ m ∷ r ∷ []) q goal
     unfolding held
     first {e} {q} P = whole (out_bind c d e (n.right ∷ r ∷ []) x q one then (λ x i. omega arith) (λ x i. omega arith) O P)
 
-    pub twice_stop_2 : {e : List ℕ} → Outcome d e (n.right ∷ r ∷ []) Full second → Outcome b e (l ∷ m ∷ r ∷ []) Full goal
+    pub twice_stop_2 : {e : List ℕ} → Outcome d e (n.right ∷ r ∷ []) None second → Outcome b e (l ∷ m ∷ r ∷ []) None goal
     unfolding held
     twice_stop_2 {e} P = first (out_stop d e two (λ z. make n.key n.value (tree (heap d) x) z) (λ x i. omega arith) (back P) (λ z. make_onward n.key n.value (tree (heap d) x) z))
 
-    module _ {f : List ℕ} {y : ℕ} (P : Outcome d f (n.right ∷ r ∷ []) (At y) second) where
+    module _ {f : List ℕ} {y : ℕ} (P : Outcome d f (n.right ∷ r ∷ []) (Some y) second) where
       aside : Among (n.right ∷ r ∷ []) (x ∷ []) (x ∷ n.right ∷ r ∷ [])
       unfolding held
       aside z i = omega arith
@@ -114,7 +114,7 @@ module _ {b c : List ℕ} {k v l m h w r : ℕ} {n : Node} (M : Middle b c k v l
         Z.size,
       ))
 
-      pub twice_last : {e : List ℕ} {q : Made} → Outcome f e (x ∷ y ∷ []) q (make n.key n.value (tree (heap f) x) (tree (heap f) y))
+      pub twice_last : {e : List ℕ} {q : Option ℕ} → Outcome f e (x ∷ y ∷ []) q (make n.key n.value (tree (heap f) x) (tree (heap f) y))
           → Outcome b e (l ∷ m ∷ r ∷ []) q goal
       unfolding held
       twice_last {e} {q} Q = first (out_bind d f e (x ∷ []) y q two (λ z. make n.key n.value (tree (heap d) x) z) (λ z i. omega arith) (λ z i. omega arith) (back P) (subst (λ t. Outcome f e (x ∷ y ∷ []) q (make n.key n.value t (tree (heap f) y))) (then_still I P x aside).tree Q))
@@ -179,11 +179,11 @@ module _ {b c : List ℕ} {k v m y : ℕ} {n : Node} {x z : ℕ} (T : Heavy b c 
   unfolding held
   right_asks = (holding_less J (λ x i. omega arith), nr, S.named, omega (arith, together, T.right))
 
-  pub left_asks_2 : {d : List ℕ} {a : ℕ} → Outcome c d (y ∷ n.left ∷ []) (At a) (make k v other left) → Asks d a n.right
+  pub left_asks_2 : {d : List ℕ} {a : ℕ} → Outcome c d (y ∷ n.left ∷ []) (Some a) (make k v other left) → Asks d a n.right
   unfolding held
   left_asks_2 O = then_left J O n.right (λ x i. omega arith) (omega (arith, together, T.left, T.right, out_made y n.left J (λ x i. omega arith) S.named nl O))
 
-  pub right_asks_2 : {d : List ℕ} {a : ℕ} → Outcome c d (n.right ∷ y ∷ []) (At a) (make k v right other) → Asks d n.left a
+  pub right_asks_2 : {d : List ℕ} {a : ℕ} → Outcome c d (n.right ∷ y ∷ []) (Some a) (make k v right other) → Asks d n.left a
   unfolding held
   right_asks_2 O = then_right J O n.left (λ x i. omega arith) (omega (arith, together, T.left, T.right, out_made n.right y J (λ x i. omega arith) nr S.named O))
 
@@ -216,13 +216,13 @@ module _ {b c : List ℕ} {k v m y : ℕ} {n : Node} {x z : ℕ} (T : Heavy b c 
   unfolding held
   right_inner p = (holding_less J (λ x i. omega arith), nl, sized_occupied (heap c) n.right nr (omega (arith, p, T.right)), S.named, omega (arith, together, T.left, T.right))
 
-  pub left_twice : {e : List ℕ} {q : Made} → 2 * (z + 1) ≤ x + 1
+  pub left_twice : {e : List ℕ} {q : Option ℕ} → 2 * (z + 1) ≤ x + 1
       → Outcome c e (y ∷ n.left ∷ n.right ∷ []) q (twice k v other left n.key n.value right)
       → Outcome b e (y ∷ m ∷ []) q (rotate_left k v (tree (heap b) y) (tree (heap b) m))
   unfolding rotate_left held
   left_twice {e} {q} p O = rw (← S.tree) (rw (read-tree T.level, rotate_left) (rw (le-ltb (weight left) (2 * weight right) (omega (arith, p, sl, sr))) (level_out T.level (y ∷ []) (λ x i. omega arith) (λ x i. omega arith) O)))
 
-  pub right_twice : {e : List ℕ} {q : Made} → 2 * (x + 1) ≤ z + 1
+  pub right_twice : {e : List ℕ} {q : Option ℕ} → 2 * (x + 1) ≤ z + 1
       → Outcome c e (n.left ∷ n.right ∷ y ∷ []) q (twice n.key n.value left right k v other)
       → Outcome b e (m ∷ y ∷ []) q (rotate_right k v (tree (heap b) m) (tree (heap b) y))
   unfolding rotate_right held
@@ -248,13 +248,13 @@ module _ {b : List ℕ} {k v l r x y : ℕ} (S : Sides b k v l r x y) where
   su = tree-size (heap b) S.asks.0.running.linked r S.asks.2 ∙ sym S.right
 
   -- a side that has a size is a node
-  pub heavy_right : 1 ≤ y → Holding b (l ∷ r ∷ []) × Named (heap b) l × Occupied (heap b) r × (size_at (heap b) l + size_at (heap b) r < 1048576)
-  heavy_right p = let A = S.asks in (A.0, A.1, sized_occupied (heap b) r A.2 (omega (arith, p, S.right)), A.3)
+  pub heavy_right : 1 ≤ y → Pair b l r × Occupied (heap b) r
+  heavy_right p = (S.asks, sized_occupied (heap b) r S.asks.2 (omega (arith, p, S.right)))
 
-  pub heavy_left : 1 ≤ x → Holding b (l ∷ r ∷ []) × Occupied (heap b) l × Named (heap b) r × (size_at (heap b) l + size_at (heap b) r < 1048576)
-  heavy_left p = let A = S.asks in (A.0, sized_occupied (heap b) l A.1 (omega (arith, p, S.left)), A.2, A.3)
+  pub heavy_left : 1 ≤ x → Pair b l r × Occupied (heap b) l
+  heavy_left p = (S.asks, sized_occupied (heap b) l S.asks.1 (omega (arith, p, S.left)))
 
-  module _ {e : List ℕ} {q : Made} where
+  module _ {e : List ℕ} {q : Option ℕ} where
     pub plain_low : x + y < 2 → Outcome b e (l ∷ r ∷ []) q (make k v T U) → Outcome b e (l ∷ r ∷ []) q (balanced k v T U)
     unfolding balanced
     plain_low p O = rw (lt-ltb (size T + size U) 2 (omega (arith, st, su)), balanced) O

@@ -7,7 +7,7 @@ use mathlib.Core.List.{List, [], ◌∷◌}
 use native.Mathlib.Omega.{arith}
 use Rattle.model.specs.Tree.{Tree}
 use Rattle.model.specs.Supply.{Make, make}
-use Rattle.model.specs.Rules.{balanced, insert_by}
+use Rattle.model.specs.Rules.{insert_by}
 use Rattle.model.specs.Heap.{load, tree}
 use Rattle.model.specs.Block.{heap}
 use Rattle.model.specs.Moves.{held, Holding}
@@ -17,8 +17,7 @@ use Rattle.model.proofs.rules.Entries.{Keeps, make_keeps, balanced_keeps}
 use Rattle.model.proofs.running.Growing.{holding_less}
 use Rattle.model.proofs.rules.Sizes.{insert_by-size}
 use Rattle.model.proofs.rules.Steady.{Onward, make_onward, balanced_onward}
-use Rattle.block.specs.declared.Made.{Made}
-use Rattle.block.specs.declared.Made.TheVariants.{At}
+use Rattle.std.specs.Prelude.{Option, Some}
 use Rattle.block.specs.declared.Node.{Node}
 use Rattle.block.specs.Outcome.{Outcome}
 use Rattle.block.proofs.Outcomes.{out_less}
@@ -34,20 +33,12 @@ remade_keeps : (f : Bool) → Keeps (remade f)
 remade_keeps true = balanced_keeps
 remade_keeps false = make_keeps
 
--- which make remakes a node
-module _ {b e ps : List ℕ} {q : Made} (f : Bool) (k v : ℕ) (l r : Tree) where
-  pub by_balanced : f ≡ true → Outcome b e ps q (balanced k v l r) → Outcome b e ps q (remade f k v l r)
-  by_balanced p O = rw p O
-
-  pub by_make : f ≡ false → Outcome b e ps q (make k v l r) → Outcome b e ps q (remade f k v l r)
-  by_make p O = rw p O
-
 -- an empty tree: what a make of two empty ones asks, and what it made
 pub insert_none_asks : {b : List ℕ} (n : ℕ) → Holding b (n ∷ []) → Asks b 0 0
 unfolding held
 insert_none_asks n H = (holding_less H (λ x i. omega (arith, hit_no 0 x (omega arith))), tt, tt, omega arith)
 
-pub insert_none : {b e : List ℕ} {q : Made} (f : Bool) (n k v : ℕ) → n ≡ 0
+pub insert_none : {b e : List ℕ} {q : Option ℕ} (f : Bool) (n k v : ℕ) → n ≡ 0
     → Outcome b e (0 ∷ 0 ∷ []) q (make k v (tree (heap b) 0) (tree (heap b) 0))
     → Outcome b e (n ∷ []) q (insert_by (remade f) (tree (heap b) n) k v)
 unfolding insert_by tree load held
@@ -76,7 +67,7 @@ module _ {b c : List ℕ} {n : ℕ} {m : Node} {f : Bool} {k v : ℕ} (I : Inser
   abbrev again : Tree → Tree → Make Tree
   again t u = remade f m.key m.value t u
 
-  pub insert_here : {e : List ℕ} {q : Made} → k ≡ m.key → Outcome c e (m.left ∷ m.right ∷ []) q (remade f k v left right) → Outcome b e (n ∷ []) q goal
+  pub insert_here : {e : List ℕ} {q : Option ℕ} → k ≡ m.key → Outcome c e (m.left ∷ m.right ∷ []) q (remade f k v left right) → Outcome b e (n ∷ []) q goal
   unfolding insert_by held
   insert_here {e} {q} p O = rw (read-tree L, insert_by) (rw (eq_cmp k m.key p) (level_out L [] (λ x i. omega arith) (λ x i. omega arith) O))
 
@@ -97,8 +88,8 @@ module _ {b c : List ℕ} {n : ℕ} {m : Node} {f : Bool} {k v : ℕ} (I : Inser
   }
 
   module _ {d : List ℕ} {x : ℕ} where
-    pub insert_left_asks : Outcome c d (m.left ∷ []) (At x) (below m.left) → Asks d x m.right
+    pub insert_left_asks : Outcome c d (m.left ∷ []) (Some x) (below m.left) → Asks d x m.right
     insert_left_asks O = up_left I.path O (λ s. insert_by-size (remade f) (remade_keeps f) left k v s)
 
-    pub insert_right_asks : Outcome c d (m.right ∷ []) (At x) (below m.right) → Asks d m.left x
+    pub insert_right_asks : Outcome c d (m.right ∷ []) (Some x) (below m.right) → Asks d m.left x
     insert_right_asks O = up_right I.path O (λ s. insert_by-size (remade f) (remade_keeps f) right k v s)

@@ -9,7 +9,7 @@ use Rattle.model.specs.Heap.{Named, size_at, tree}
 use Rattle.model.specs.Block.{heap}
 use Rattle.model.specs.Moves.{held, Holding}
 use Rattle.model.proofs.running.Growing.{holding_less}
-use Rattle.block.specs.declared.Made.TheVariants.{At}
+use Rattle.std.specs.Prelude.{Some}
 use Rattle.block.specs.declared.Node.{Node}
 use Rattle.block.specs.Outcome.{Outcome}
 use Rattle.block.proofs.Levels.{Asks, Level, read_left, read_right, read-size, level_holds, out_most, then_left, then_right}
@@ -42,10 +42,10 @@ module _ {b c : List ℕ} {n : ℕ} {m : Node} (P : Path b c n m) where
 
   -- there a rule that adds at most one entry has made x
   module _ {d : List ℕ} {x : ℕ} {rule : Make Tree} where
-    pub up_left : Outcome c d (m.left ∷ []) (At x) rule → ((s : Supply) → size (rule s).0 ≤ suc (size (tree (heap c) m.left))) → Asks d x m.right
+    pub up_left : Outcome c d (m.left ∷ []) (Some x) rule → ((s : Supply) → size (rule s).0 ≤ suc (size (tree (heap c) m.left))) → Asks d x m.right
     unfolding held
     up_left O p = then_left children O m.right (λ x i. omega arith) (omega (arith, read-size P.level, P.small, out_most m.left children (λ x i. omega arith) (read_left P.level) O p))
 
-    pub up_right : Outcome c d (m.right ∷ []) (At x) rule → ((s : Supply) → size (rule s).0 ≤ suc (size (tree (heap c) m.right))) → Asks d m.left x
+    pub up_right : Outcome c d (m.right ∷ []) (Some x) rule → ((s : Supply) → size (rule s).0 ≤ suc (size (tree (heap c) m.right))) → Asks d m.left x
     unfolding held
     up_right O p = then_right children O m.left (λ x i. omega arith) (omega (arith, read-size P.level, P.small, out_most m.right children (λ x i. omega arith) (read_right P.level) O p))

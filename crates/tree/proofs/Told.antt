@@ -11,43 +11,42 @@ use Rattle.model.specs.Rules.{insert_by, insert, remove_present, remove, edit_by
 use Rattle.model.specs.Heap.{Named, tree}
 use Rattle.model.specs.Block.{heap}
 use Rattle.model.specs.Moves.{Running, held}
-use Rattle.block.specs.declared.Found.{Found}
-use Rattle.block.specs.declared.Found.TheVariants.{Value, Absent}
-use Rattle.block.specs.declared.Made.{Made}
-use Rattle.block.specs.declared.Made.TheVariants.{At}
-use Rattle.block.specs.Outcome.{Outcome, answer, is_absent}
+use Rattle.std.specs.Prelude.{Option, Some, None, is_some, not}
+use Rattle.block.specs.Outcome.{Outcome, answer}
 use Rattle.block.proofs.Outcomes.{out_done}
 use Rattle.tree.specs.Remade.{remade}
 
 -- a new key uses balanced makes, an equal key plain ones
-insert_told : (f : Found) (t : Tree) (k v : ℕ) → answer f ≡ lookup t k → insert_by (remade (is_absent f)) t k v ≡ insert t k v
+insert_told : (f : Option ℕ) (fresh : Bool) (t : Tree) (k v : ℕ) → is_some f ≡ not fresh → answer f ≡ lookup t k → insert_by (remade fresh) t k v ≡ insert t k v
 unfolding insert
-insert_told (Value w) t k v e = rw (← e, insert)
-insert_told Absent t k v e = rw (← e, insert)
+insert_told (Some w) true t k v i e = absurd (true≢false i)
+insert_told (Some w) false t k v i e = rw (← e, insert)
+insert_told None true t k v i e = rw (← e, insert)
+insert_told None false t k v i e = absurd (true≢false (sym i))
 
-pub inserted_told : {b c ps : List ℕ} {q : Made} (f : Found) (fresh : Bool) (n key value : ℕ) → fresh ≡ is_absent f
+pub inserted_told : {b c ps : List ℕ} {q : Option ℕ} (f : Option ℕ) (fresh : Bool) (n key value : ℕ) → is_some f ≡ not fresh
     → answer f ≡ lookup (tree (heap b) n) key → Outcome b c ps q (insert_by (remade fresh) (tree (heap b) n) key value)
     → Outcome b c ps q (insert (tree (heap b) n) key value)
 inserted_told {b} {c} {ps} {q} f fresh n key value i e O =
-    subst (Outcome b c ps q) (insert_told f (tree (heap b) n) key value e) (subst (λ x. Outcome b c ps q (insert_by (remade x) (tree (heap b) n) key value)) i O)
+    subst (Outcome b c ps q) (insert_told f fresh (tree (heap b) n) key value i e) O
 
 -- an absent key makes nothing
-remove_absent : (f : Found) (t : Tree) (k : ℕ) → answer f ≡ lookup t k → is_absent f ≡ true → done t ≡ remove t k
+remove_absent : (f : Option ℕ) (t : Tree) (k : ℕ) → answer f ≡ lookup t k → is_some f ≡ false → done t ≡ remove t k
 unfolding remove
-remove_absent (Value w) t k e a = absurd (true≢false (sym a))
-remove_absent Absent t k e a = rw (← e, remove)
+remove_absent (Some w) t k e a = absurd (true≢false a)
+remove_absent None t k e a = rw (← e, remove)
 
-remove_present_lem : (f : Found) (t : Tree) (k : ℕ) → answer f ≡ lookup t k → is_absent f ≡ false → remove_present t k ≡ remove t k
+remove_present_lem : (f : Option ℕ) (t : Tree) (k : ℕ) → answer f ≡ lookup t k → is_some f ≡ true → remove_present t k ≡ remove t k
 unfolding remove
-remove_present_lem (Value w) t k e a = rw (← e, remove)
-remove_present_lem Absent t k e a = absurd (true≢false a)
+remove_present_lem (Some w) t k e a = rw (← e, remove)
+remove_present_lem None t k e a = absurd (true≢false (sym a))
 
-pub removed_absent : {b : List ℕ} {n : ℕ} (f : Found) (key : ℕ) → Running b → Named (heap b) n → answer f ≡ lookup (tree (heap b) n) key
-    → is_absent f ≡ true → Outcome b b (n ∷ []) (At n) (remove (tree (heap b) n) key)
+pub removed_absent : {b : List ℕ} {n : ℕ} (f : Option ℕ) (key : ℕ) → Running b → Named (heap b) n → answer f ≡ lookup (tree (heap b) n) key
+    → is_some f ≡ false → Outcome b b (n ∷ []) (Some n) (remove (tree (heap b) n) key)
 unfolding held
-removed_absent {b} {n} f key R o e a = subst (Outcome b b (n ∷ []) (At n)) (remove_absent f (tree (heap b) n) key e a) (out_done b n (λ x i. omega arith) R o)
+removed_absent {b} {n} f key R o e a = subst (Outcome b b (n ∷ []) (Some n)) (remove_absent f (tree (heap b) n) key e a) (out_done b n (λ x i. omega arith) R o)
 
-pub removed_present : {b c ps : List ℕ} {q : Made} (f : Found) (n key : ℕ) → answer f ≡ lookup (tree (heap b) n) key → is_absent f ≡ false
+pub removed_present : {b c ps : List ℕ} {q : Option ℕ} (f : Option ℕ) (n key : ℕ) → answer f ≡ lookup (tree (heap b) n) key → is_some f ≡ true
     → Outcome b c ps q (remove_present (tree (heap b) n) key) → Outcome b c ps q (remove (tree (heap b) n) key)
 removed_present {b} {c} {ps} {q} f n key e a O = subst (Outcome b c ps q) (remove_present_lem f (tree (heap b) n) key e a) O
 
@@ -73,13 +72,13 @@ module _ (b : List ℕ) (n kind key value : ℕ) where
   abbrev t : Tree
   t = tree (heap b) n
 
-  pub kind_none : kind ≡ 0 → Running b → Named (heap b) n → Outcome b b (n ∷ []) (At n) (edit_by kind key value t)
+  pub kind_none : kind ≡ 0 → Running b → Named (heap b) n → Outcome b b (n ∷ []) (Some n) (edit_by kind key value t)
   unfolding held
-  kind_none e R o = subst (Outcome b b (n ∷ []) (At n)) (edit_none kind key value t e) (out_done b n (λ x i. omega arith) R o)
+  kind_none e R o = subst (Outcome b b (n ∷ []) (Some n)) (edit_none kind key value t e) (out_done b n (λ x i. omega arith) R o)
 
-  pub kind_put : {c : List ℕ} {q : Made} (f : Found) (fresh : Bool) → kind ≡ 1 → fresh ≡ is_absent f → answer f ≡ lookup t key
+  pub kind_put : {c : List ℕ} {q : Option ℕ} (f : Option ℕ) (fresh : Bool) → kind ≡ 1 → is_some f ≡ not fresh → answer f ≡ lookup t key
       → Outcome b c (n ∷ []) q (insert_by (remade fresh) t key value) → Outcome b c (n ∷ []) q (edit_by kind key value t)
   kind_put {c} {q} f fresh e i a O = subst (Outcome b c (n ∷ []) q) (edit_put kind key value t e) (inserted_told f fresh n key value i a O)
 
-  pub kind_remove : {c : List ℕ} {q : Made} → kind ≢ 0 → kind ≢ 1 → Outcome b c (n ∷ []) q (remove t key) → Outcome b c (n ∷ []) q (edit_by kind key value t)
+  pub kind_remove : {c : List ℕ} {q : Option ℕ} → kind ≢ 0 → kind ≢ 1 → Outcome b c (n ∷ []) q (remove t key) → Outcome b c (n ∷ []) q (edit_by kind key value t)
   kind_remove {c} {q} p r O = subst (Outcome b c (n ∷ []) q) (edit_remove kind key value t p r) O

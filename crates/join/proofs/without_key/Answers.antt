@@ -1,6 +1,6 @@
 -- Without the key, code and rule ask the same: is a side empty, and if not, which entry is the right's minimum.
 use Rattle.model.specs.Rules.{join}
-use Rattle.tree.proofs.Removes.{lost_told, sole_right, sole_left, without_min, without_stop, without_asks, without_last}
+use Rattle.tree.proofs.Removes.{sole_right, sole_left, without_min, without_stop, without_asks, without_last}
 use Rattle.model.proofs.rules.Steady.{join_onward}
 use Rattle.join.proofs.without_key.Goals as goal
 
@@ -14,11 +14,11 @@ pub remove_min-requires : goal.remove_min-requires
 remove_min-requires c =
     (without_min join c.args.left c.args.right c.requires.0 c.if-left-eq0.false c.if-right-eq0.false, c.requires.1)
 
-pub returns-in_default : goal.returns-in_default
-returns-in_default c = (without_stop join c.args.left c.args.right c.requires.0 c.if-left-eq0.false c.if-right-eq0.false join_onward (lost_told _ _ c.in_default.is c.remove_min.ensures.0), c.remove_min.ensures.1)
+pub returns-in_err-min : goal.returns-in_err-min
+returns-in_err-min c = rw c.from_residual.ensures (without_stop join c.args.left c.args.right c.requires.0 c.if-left-eq0.false c.if-right-eq0.false join_onward c.in_err-min.ensures.0, c.remove_min.ensures.1)
 
 pub join-requires : goal.join-requires
-join-requires c = (without_asks join c.args.left c.args.right c.requires.0 c.if-left-eq0.false c.if-right-eq0.false (lost_told _ _ c.in-Into.is c.remove_min.ensures.0), c.remove_min.ensures.1)
+join-requires c = (without_asks join c.args.left c.args.right c.requires.0 c.if-left-eq0.false c.if-right-eq0.false c.in_ok-min.ensures.0, c.remove_min.ensures.1)
 
 pub returns : goal.returns
-returns c = (without_last join c.args.left c.args.right c.requires.0 c.if-left-eq0.false c.if-right-eq0.false (lost_told _ _ c.in-Into.is c.remove_min.ensures.0) c.join.ensures.0, c.join.ensures.1)
+returns c = (without_last join c.args.left c.args.right c.requires.0 c.if-left-eq0.false c.if-right-eq0.false c.in_ok-min.ensures.0 c.join.ensures.0, c.join.ensures.1)

@@ -5,21 +5,12 @@ use Rattle.tree.proofs.edit.Goals as goal
 pub returns-then-kind-eq0 : goal.returns-then-kind-eq0
 returns-then-kind-eq0 c = let a = c.args in (kind_none a.b.now a.n a.kind a.key a.value c.if-kind-eq0.true c.requires.0.0.running c.requires.0.1, c.requires.1)
 
-pub find-found-requires : goal.find-found-requires
-find-found-requires c = let p = c.requires.0 in (p.0.running.shaped, p.0.running.linked, p.1)
-
-pub insert-requires : goal.insert-requires
-insert-requires c = c.requires
-
 pub returns-then-kind-eq1 : goal.returns-then-kind-eq1
 returns-then-kind-eq1 c =
     let a = c.args in
     let found = c.find-found in
-    let absent = c.is_absent in
+    let absent = c.is_none in
     (kind_put a.b.now a.n a.kind a.key a.value found.result absent.result c.if-kind-eq1.true absent.ensures found.ensures c.insert.ensures.0, c.insert.ensures.1)
-
-pub without-requires : goal.without-requires
-without-requires c = let p = c.requires in ((p.0.0, p.0.1, p.0.2, c.find-found.ensures), p.1)
 
 pub returns : goal.returns
 returns c =

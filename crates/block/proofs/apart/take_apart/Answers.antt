@@ -1,6 +1,6 @@
 -- A count of 0 says that the call made the node: it is emptied, and its children, which the call has in its hands now, lose the references that it had to them.
 use native.Mathlib.Omega.{arith}
-use mathlib.Core.Path.{◌≡◌, ap, sym, refl, ◌∙◌}
+use mathlib.Core.Path.{◌≡◌, ap, refl, ◌∙◌}
 use Prim.Native.Nat.{ℕ, ◌≤◌}
 use Rattle.model.specs.Block.{heap}
 use Rattle.model.proofs.running.Giveups.{Emptying, left_asks}
@@ -24,15 +24,6 @@ emptying c =
       left = ap (λ z. z.left) c.read-node.ensures;
       right = ap (λ z. z.right) c.read-node.ensures;
     }
-
-pub read-node-requires : goal.read-node-requires
-read-node-requires c = let w = c.requires.0.0.linked.within c.args.n c.requires.0.1 in (c.requires.0.0.shaped, w.0, w.1)
-
-pub node_word-requires : goal.node_word-requires
-node_word-requires c = let w = c.requires.0.0.linked.within c.args.n c.requires.0.1 in (c.requires.0.0.shaped, w.0, w.1, omega arith)
-
-pub clear-requires : goal.clear-requires
-clear-requires c = let p = c.requires.0 in (p.0.shaped, p.1)
 
 pub unlink-requires : goal.unlink-requires
 unlink-requires c = let asks = left_asks (emptying (goal.at.unlink-requires c).After-clear) in (c.clear.ensures.0, asks.1, asks.2)

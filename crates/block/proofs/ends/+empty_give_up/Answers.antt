@@ -16,19 +16,6 @@ emptying : (t : ℕ) (c : empty-After-clear t)
 emptying t c =
     record { linked = c.requires.1; unnamed = c.requires.2; emptied = c.clear.ensures.1; left = c.node_word-l.ensures; right = c.node_word-r.ensures }
 
-pub empty-node_word-l-requires : goal.empty-node_word-l-requires
-empty-node_word-l-requires t c =
-    let w = c.requires.1.within c.args.n c.requires.2.was in
-    (c.requires.0, w.0, w.1, omega arith)
-
-pub empty-node_word-r-requires : goal.empty-node_word-r-requires
-empty-node_word-r-requires t c =
-    let w = c.requires.1.within c.args.n c.requires.2.was in
-    (c.requires.0, w.0, w.1, omega arith)
-
-pub empty-clear-requires : goal.empty-clear-requires
-empty-clear-requires t c = (c.requires.0, c.requires.2.was)
-
 pub empty-give_up-requires : goal.empty-give_up-requires
 empty-give_up-requires t c =
     let asks = left_asks (emptying t (goal.at.empty-give_up-requires t c).After-clear) in

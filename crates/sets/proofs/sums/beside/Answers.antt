@@ -1,6 +1,4 @@
 -- Each side of the key is on one side of the node's, or not cut off by it.
-use Rattle.model.specs.Block.{heap}
-use Rattle.model.proofs.block.Lookups.{link_occupied}
 use Rattle.tree.proofs.Gathers.{AtNode}
 use Rattle.sets.proofs.SumTest.{key_less, key_more, key_same}
 use Rattle.sets.proofs.sums.beside.Goals as goal
@@ -8,12 +6,6 @@ use Rattle.sets.proofs.sums.beside.Goals.{After-read-m}
 
 node : (c : After-read-m) → AtNode c.args.b.now c.args.n c.read-m.result
 node c = record { summable = c.requires.0; there = c.requires.1; is = c.read-m.ensures }
-
-pub read-m-requires : goal.read-m-requires
-read-m-requires c =
-    let S = c.requires.0 in
-    let w = S.linked.within c.args.n (link_occupied (heap c.args.b.now) c.args.n S.named c.requires.1) in
-    (S.shaped, w.0, w.1)
 
 pub returns-then-key-m : goal.returns-then-key-m
 returns-then-key-m c = key_less (node (goal.at.returns-then-key-m c).After-read-m) c.if-key-m.true
