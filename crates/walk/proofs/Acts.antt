@@ -6,6 +6,7 @@ use Prim.Native.Nat.{ℕ, zero, suc, ◌≤◌, ◌<◌, compare, Ordering}
 use native.Mathlib.Omega.{arith}
 use lib.ListN.{length, drop}
 use lib.Dec.{eqb, leb}
+use Rattle.std.specs.Prelude.{Some}
 use Rattle.model.specs.Tree.{size, id_of}
 use Rattle.model.specs.Heap.{Heap, Occupied, Named, Linked, size_at, tree, load}
 use Rattle.model.specs.Listing.{Turn, on, yield, pend, opened, turn}
@@ -13,22 +14,15 @@ use Rattle.model.proofs.block.Loads.{tree_node, tree_id, tree-size}
 use Rattle.model.proofs.running.Growing.{named_occupied}
 use Rattle.walk.specs.declared.Pending.{Pending}
 use Rattle.walk.specs.declared.Pending.TheVariants as pending
-use Rattle.walk.specs.declared.Yield.TheVariants.{Only, Common}
 use Rattle.walk.specs.declared.Act.{Act}
 use Rattle.walk.specs.declared.Act.TheVariants.{Left, Right, Drop, Give}
 use Rattle.walk.specs.Rows.{row}
-use Rattle.walk.specs.Cursors.{item, items, Standing, AllStanding, trees, entries, both_of, alone_of, act_of, pops_of}
-use Rattle.walk.proofs.Piles.{kid, opened_on}
-
--- what is below the top
-abbrev pub below : List Pending → List Pending
-below [] = []
-below (p ∷ s) = s
+use Rattle.walk.specs.Cursors.{item, items, top, kid, opened_on, only, common, Standing, AllStanding, TopStanding, trees, entries, both_of, alone_of, act_of, pops_of}
 
 -- the doing of what was chosen, on both sides
 abbrev pub acted : Heap → Act → List Pending → List Pending → Turn
-acted h (Left m) l r = on (record { left = items h (opened_on h m (below l)); right = items h r })
-acted h (Right m) l r = on (record { left = items h l; right = items h (opened_on h m (below r)) })
+acted h (Left m) l r = on (record { left = items h (opened_on h m (drop 1 l)); right = items h r })
+acted h (Right m) l r = on (record { left = items h l; right = items h (opened_on h m (drop 1 r)) })
 acted h (Drop i) l r = on (record { left = items h (drop i l); right = items h (drop 1 r) })
 acted h (Give y) l r = yield (row y) (record { left = items h (drop 1 l); right = items h (drop (pops_of y) r) })
 
@@ -50,7 +44,7 @@ module _ (h : Heap) (L : Linked h) where
   items_opened n s o =
       rw (tree_node h L n o, items_kid (h.left n) (pending.Entry (h.key n) (h.value n) ∷ kid (h.right n) s) (L.lefts n o), items_kid (h.right n) s (L.rights n o))
 
-  kid_standing : (n : ℕ) (s : List Pending) → Named h n → AllStanding h s → AllStanding h (kid n s)
+  pub kid_standing : (n : ℕ) (s : List Pending) → Named h n → AllStanding h s → AllStanding h (kid n s)
   unfolding AllStanding
   kid_standing zero s o a = a
   kid_standing (suc n) s o a = (o, a)
@@ -91,10 +85,10 @@ module _ (h : Heap) (L : Linked h) where
   both_acts (pending.Entry k v) (pending.Entry j u) l r p q = go (compare k j)
     where
       go : (o : Ordering) → elim o [
-        | Ordering.lt ↦ yield (row (Only k v)) (record { left = items h l; right = item h (pending.Entry j u) ∷ items h r })
-        | Ordering.eq ↦ yield (row (Common k v u)) (record { left = items h l; right = items h r })
+        | Ordering.lt ↦ yield (row (only k v)) (record { left = items h l; right = item h (pending.Entry j u) ∷ items h r })
+        | Ordering.eq ↦ yield (row (common k v u)) (record { left = items h l; right = items h r })
         | Ordering.gt ↦ on (record { left = item h (pending.Entry k v) ∷ items h l; right = items h r })
-      ] ≡ acted h (elim o [ Ordering.lt ↦ Give (Only k v) | Ordering.eq ↦ Give (Common k v u) | Ordering.gt ↦ Drop 0 ]) (pending.Entry k v ∷ l) (pending.Entry j u ∷ r)
+      ] ≡ acted h (elim o [ Ordering.lt ↦ Give (only k v) | Ordering.eq ↦ Give (common k v u) | Ordering.gt ↦ Drop 0 ]) (pending.Entry k v ∷ l) (pending.Entry j u ∷ r)
       go Ordering.lt = refl
       go Ordering.eq = refl
       go Ordering.gt = refl
@@ -116,7 +110,7 @@ module _ (h : Heap) (L : Linked h) where
   both_fit n (pending.Entry k v) (pending.Tree y) p q m = (q, m)
   both_fit n (pending.Entry k v) (pending.Entry j u) p q m = go (compare k j)
     where
-      go : (o : Ordering) → Fit h n (elim o [ Ordering.lt ↦ Give (Only k v) | Ordering.eq ↦ Give (Common k v u) | Ordering.gt ↦ Drop 0 ])
+      go : (o : Ordering) → Fit h n (elim o [ Ordering.lt ↦ Give (only k v) | Ordering.eq ↦ Give (common k v u) | Ordering.gt ↦ Drop 0 ])
       go Ordering.lt = omega arith
       go Ordering.eq = omega arith
       go Ordering.gt = (omega arith, m)
@@ -125,44 +119,40 @@ module _ (h : Heap) (L : Linked h) where
   alone_fit n (pending.Tree x) p = p
   alone_fit n (pending.Entry k v) p = omega arith
 
--- both sides at a turn: a is the left's top, z the top of the right's n items, if any
-pub record Facing (h : Heap) (a z : Pending) (l L r R : List Pending) (n : ℕ) : Type 0 where
-  pub linked : Linked h
-  pub top_left : l ≡ a ∷ L
-  pub top_right : 0 < n → r ≡ z ∷ R
-  pub count : n ≡ length r
-  pub stand_left : AllStanding h l
-  pub stand_right : AllStanding h r
-
-module _ {h : Heap} {a z : Pending} {l L r R : List Pending} {n : ℕ} (F : Facing h a z l L r R n) where
-  pub stand_a : Standing h a
+module _ {h : Heap} (L : Linked h) (a : Pending) (l r : List Pending) (e : Some a ≡ top l) (p : AllStanding h l) (q : AllStanding h r) where
+  pub stand_top : Standing h a
   unfolding AllStanding
-  stand_a = (rw F.top_left at F.stand_left).0
+  stand_top = go l e p
+    where
+      go : (l : List Pending) → Some a ≡ top l → AllStanding h l → Standing h a
+      go [] e p = absurd (cc)
+      go (x ∷ l) e p = let f : x ≡ a = cc in rw (← f) p.0
 
-  pub stand_z : 0 < n → Standing h z
+  pub acts : turn (items h l) (items h r) ≡ acted h (act_of h a (top r)) l r
+  unfolding items AllStanding
+  acts = go l r e q
+    where
+      go : (l r : List Pending) → Some a ≡ top l → AllStanding h r → turn (items h l) (items h r) ≡ acted h (act_of h a (top r)) l r
+      go [] r e q = absurd (cc)
+      go (x ∷ l) [] e q = let f : x ≡ a = cc in rw f (alone_acts h L a l stand_top)
+      go (x ∷ l) (z ∷ r) e q = let f : x ≡ a = cc in rw f (both_acts h L a z l r stand_top q.0)
+
+  pub fit : Fit h (length r) (act_of h a (top r))
   unfolding AllStanding
-  stand_z p = (rw (F.top_right p) at F.stand_right).0
-
-  acts : turn (items h l) (items h r) ≡ acted h (act_of h a z n) l r
-  unfolding items
-  acts = rw F.top_left (go n r F.count F.top_right stand_z)
+  fit = go r q
     where
-      go : (n : ℕ) (r : List Pending) → n ≡ length r → (0 < n → r ≡ z ∷ R) → (0 < n → Standing h z)
-          → turn (items h (a ∷ L)) (items h r) ≡ acted h (act_of h a z n) (a ∷ L) r
-      go zero [] e q s = alone_acts h F.linked a L stand_a
-      go zero (y ∷ r) e q s = absurd (omega arith)
-      go (suc n) r e q s = rw (q (omega arith)) (both_acts h F.linked a z L R stand_a (s (omega arith)))
+      go : (r : List Pending) → AllStanding h r → Fit h (length r) (act_of h a (top r))
+      go [] q = alone_fit h L 0 a stand_top
+      go (z ∷ r) q = both_fit h L (length (z ∷ r)) a z stand_top q.0 (omega arith)
 
-  fit : Fit h n (act_of h a z n)
-  fit = go n stand_z
-    where
-      go : (n : ℕ) → (0 < n → Standing h z) → Fit h n (act_of h a z n)
-      go zero s = alone_fit h F.linked zero a stand_a
-      go (suc n) s = both_fit h F.linked (suc n) a z stand_a (s (omega arith)) (omega arith)
-
-  module _ {x : Act} (e : x ≡ act_of h a z n) where
+  module _ {x : Act} (c : x ≡ act_of h a (top r)) where
     pub acts_by : turn (items h l) (items h r) ≡ acted h x l r
-    acts_by = rw e acts
+    acts_by = rw c acts
 
-    pub fit_by : Fit h n x
-    fit_by = rw e fit
+    pub fit_by : Fit h (length r) x
+    fit_by = rw c fit
+
+pub stand_other : (h : Heap) (r : List Pending) → AllStanding h r → TopStanding h (top r)
+unfolding AllStanding
+stand_other h [] q = tt
+stand_other h (z ∷ r) q = q.0

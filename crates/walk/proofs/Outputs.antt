@@ -3,13 +3,14 @@ use mathlib.Core.Path.{◌≡◌, refl, ap, sym, ◌∙◌}
 use mathlib.Core.Bool.{Bool, true, false}
 use mathlib.Core.List.{List, [], ◌∷◌, ◌++◌, append_assoc}
 use Prim.Native.Nat.{ℕ, zero, suc, ◌+◌, ◌-◌, ◌*◌, ◌/◌, ◌≤◌, ◌<◌, min}
-use native.Mathlib.Nat.{add-zero, sub-zero}
+use native.Mathlib.Nat.{add-zero, sub-zero, add-sub_cancel_left, suc-mul, le-div_iff_mul-le}
 use native.Mathlib.Numerals.{add-one}
 use native.Mathlib.Omega.{arith}
 use native.Mathlib.Decide.{dec_le}
 use lib.ListN.{length, take, drop, length-append, length-take, length-drop}
 use lib.Seq.{sets, sets-eq, take_at, drop-append-add, drop-drop}
 use lib.Dec.{ltb}
+use borrow.Rule.Slice.PartMut.{put_mid}
 use borrow.Author.Tests.{lt-ltb, le-ltb, le-leb, lt-leb}
 use Rattle.model.specs.Listing.{Row}
 use Rattle.walk.specs.declared.Wanted.{Wanted}
@@ -85,6 +86,14 @@ module _ (k i : ℕ) (ws out : List ℕ) where
   pub put_some : i < length out / k → put_at k i ws out ≡ sets out (i * k) ws
   unfolding put_at
   put_some h = rw (lt-leb (length out / k) i h, put_at)
+
+-- the words written over a part of the output, from word i * k on
+pub put_mid_at : (k i : ℕ) (ws out : List ℕ) → 0 < k → i < length out / k → length ws ≡ k → put_mid (i * k) (i * k + k - i * k) out ws ≡ put_at k i ws out
+put_mid_at k i ws out p h e =
+    let n : i * k + k - i * k ≡ k = add-sub_cancel_left (i * k) k in
+    let fits : suc i * k ≤ length out = (le-div_iff_mul-le p).0 h in
+    let room : i * k + length ws ≤ length out = rw e (omega (arith, suc-mul i k)) in
+    rw (put_some k i ws out h, sets-eq ws out (i * k) room, n, drop-drop k (i * k) out, e, append_assoc)
 
 -- row i right after i rows, if it fits
 put_next : (k i : ℕ) (ws p o : List ℕ) → Divides k → length ws ≡ k → length p ≡ i * k → k ≤ length o → put_at k i ws (p ++ o) ≡ (p ++ ws) ++ drop k o

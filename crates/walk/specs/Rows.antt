@@ -1,15 +1,15 @@
 -- Which rows of a listing are wanted, and their words in the output.
-use Rattle.std.specs.Prelude.{◌≡◌, ℕ, zero, suc, ◌-◌, ◌*◌, ◌/◌, Bool, true, false, not, List, [], ◌∷◌, ◌++◌, length, take, drop, eqb, ltb, leb}
+use Rattle.std.specs.Prelude.{◌≡◌, ℕ, ◌-◌, ◌*◌, ◌/◌, Bool, true, false, List, [], ◌∷◌, ◌++◌, length, take, drop, ltb, leb, Result, Ok, Err}
 use Rattle.std.proofs.Math.Option.{Option, none, some}
 use Rattle.std.proofs.lemmas.List.Edits.{sets}
 use Rattle.model.specs.Listing.{Row, Walk, until}
 use Rattle.model.specs.Delta.{Change, changed}
+use Rattle.answers.specs.Answers as answers
+use Rattle.answers.specs.declared.Refusal.{Refusal}
+use Rattle.answers.specs.declared.Refusal.TheVariants.{TooDeep}
 use Rattle.walk.specs.declared.Yield.{Yield}
-use Rattle.walk.specs.declared.Yield.TheVariants.{Only, Common}
 use Rattle.walk.specs.declared.Wanted.{Wanted}
 use Rattle.walk.specs.declared.Wanted.TheVariants.{Rows, Puts, Removes}
-use Rattle.walk.specs.declared.Walked.{Walked}
-use Rattle.walk.specs.declared.Walked.TheVariants.{Total, TooDeep}
 
 -- the right side lacks the key
 abbrev pub lacking : Row → Bool
@@ -42,14 +42,11 @@ abbrev pub value_of : Option ℕ → ℕ
 value_of none = 0
 value_of (some v) = v
 
-abbrev pub words_by : Wanted → (key left common right : ℕ) → List ℕ
-words_by Rows k v c u = k ∷ v ∷ c ∷ u ∷ []
-words_by Puts k v c u = k ∷ v ∷ []
-words_by Removes k v c u = k ∷ 0 ∷ []
-
 -- the words of a row
 abbrev pub words : Wanted → Row → List ℕ
-words w r = words_by w r.key r.left (common_of r.right) (value_of r.right)
+words Rows r = r.key ∷ r.left ∷ common_of r.right ∷ value_of r.right ∷ []
+words Puts r = r.key ∷ r.left ∷ []
+words Removes r = r.key ∷ 0 ∷ []
 
 -- one row after another
 unfoldable pub words_of : Wanted → List Row → List ℕ
@@ -65,19 +62,13 @@ unfoldable pub written : Wanted → ℕ → List Row → List ℕ → List ℕ
 written w start rows out = part w start (length out) rows ++ drop (length (part w start (length out) rows)) out
 
 -- too deep, or how many rows are wanted
-unfoldable pub answer : Wanted → Walk → Walked
-answer w k = elim k.deep [ true ↦ TooDeep | false ↦ Total (length (chosen w k.rows)) ]
+unfoldable pub answer : Wanted → Walk → Result ℕ Refusal
+answer w k = elim k.deep [ true ↦ Err TooDeep | false ↦ Ok (length (chosen w k.rows)) ]
 
 -- the whole walk, or up to its first wanted row
 abbrev pub upto : Bool → Wanted → Walk → Walk
 upto false w k = k
 upto true w k = until (wants w) k.rows k.deep
-
--- turns left after a row of which k are wanted: none, where one wanted row is enough
-abbrev pub turns_left : Bool → ℕ → ℕ → ℕ
-turns_left false k f = f
-turns_left true zero f = f
-turns_left true (suc k) f = 0
 
 -- a change of the delta as two words: its key, and its value or 0
 unfoldable pub change_words : List Change → List ℕ
@@ -92,16 +83,7 @@ pub record Changes (w : Wanted) (rows : List Row) (cs : List Change) : Type 0 wh
 -- The same one row at a time, as the walk goes.
 
 abbrev pub row : Yield → Row
-row (Only k v) = record { key = k; left = v; right = none }
-row (Common k v u) = record { key = k; left = v; right = some u }
-
-abbrev pub changed_by : Yield → Bool
-changed_by (Only k v) = true
-changed_by (Common k v u) = not (eqb v u)
-
-abbrev pub lacking_by : Yield → Bool
-lacking_by (Only k v) = true
-lacking_by (Common k v u) = false
+row y = record { key = y.key; left = y.left; right = answers.answer y.right }
 
 -- row i of an output of rows of k words, if there is room for it
 unfoldable pub put_at : ℕ → ℕ → List ℕ → List ℕ → List ℕ

@@ -1,16 +1,14 @@
 -- Each turn does what the listing's turn does, so what is told so far and what is still to come stay the same answer; the turns run out with the listing's.
 use native.Mathlib.Omega.{arith}
-use mathlib.Core.Path.{refl, ◌∙◌}
+use mathlib.Core.Path.{◌≡◌, refl, sym, ◌∙◌}
 use mathlib.Core.List.{List}
-use Prim.Native.Nat.{ℕ, ◌+◌, ◌-◌, ◌≤◌}
+use Prim.Native.Nat.{ℕ, ◌+◌, ◌-◌, ◌*◌, ◌≤◌}
+use Rattle.std.proofs.lemmas.Result.{err_from_is_err_and}
 use Rattle.model.specs.Block.{heap, Shaped, SoundBlock}
 use Rattle.model.specs.Heap.{Linked}
-use Rattle.walk.specs.Rows.{row}
-use Rattle.walk.proofs.Piles.{opened_order}
-use Rattle.walk.proofs.Acts.{stand_a, stand_z}
-use Rattle.walk.proofs.Goings.{told_total, told_deep, going_begins, stops, ends, Chosen, faces, fitting, goes_left, deepens_left, goes_right, deepens_right, goes_down, goes_on, counted_le, left_le, small}
+use Rattle.walk.proofs.Goings.{told_total, told_deep, going_begins, stops, ends, stands, stands_other, Chosen, some_left, fitting, goes_left, deepens_left, goes_right, deepens_right, goes_down, goes_past, goes_on, first_found, small, pops_is}
 use Rattle.walk.proofs.walk.Goals as goal
-use Rattle.walk.proofs.walk.Goals.{After-size_at-2, After-choose, After-open-o, After-open-o-in-Right, After-turns_left-fuel}
+use Rattle.walk.proofs.walk.Goals.{After-size_at-2, After-choose, in-Left+in_ok-open-in-Left, in-Right+in_ok-open-in-Right, in-Drop, in-Give+then-show+else-once, in-Give+else-show}
 
 ready : (b : List ℕ) → SoundBlock b → Shaped b × Linked (heap b)
 ready b S = (S.shaped, S.sound.kept.linked)
@@ -20,140 +18,139 @@ sizes : (c : After-size_at-2) → c.size_at.result + c.size_at-2.result ≤ 8192
 sizes c =
     omega (arith, small c.args.b.now c.requires.0 c.args.left c.requires.1, small c.args.b.now c.requires.0 c.args.right c.requires.2, c.size_at.ensures, c.size_at-2.ensures)
 
+-- the turns that are left
+abbrev left : After-choose → ℕ
+left c = 2 * (c.size_at.result + c.size_at-2.result) + 1 - c.loop-turn._turn
+
 -- a turn whose act is chosen
-chosen : (c : After-choose)
-    → Chosen (heap c.args.b.now) c.loop-fuel.l c.loop-fuel.r c.top_index-ri.result c.loop-fuel.fuel c.choose.result
+chosen : (c : After-choose) → Chosen (heap c.args.b.now) c.in-Some.a c.loop-turn.l c.loop-turn.r (left c) c.choose.result
 chosen c = record {
-  some = omega (arith, c.if-ln-eq0.false);
-  index = c.top_index-ri.ensures.0;
-  turns = c.loop-fuel-test.true;
-  is = c.choose.ensures;
+  some = sym c.in-Some.is ∙ c.top.ensures;
+  turns = omega (arith, c.loop-turn-test.true);
+  is = rw (← c.top-in-loop-turn.ensures) c.choose.ensures;
 }
 
-in_order : (c : After-open-o) → c.«open-o».result.at ≤ c.«open-o».result.last
-in_order c = (opened_order (heap c.args.b.now) c.in-Left.m (c.loop-fuel.l.len - 1) c.«open-o».result c.«open-o».ensures).1
+pub overflow_add-turns : goal.overflow_add-turns
+overflow_add-turns c = omega (arith, sizes c)
 
-in_order_right : (c : After-open-o-in-Right) → c.open-o-in-Right.result.at ≤ c.open-o-in-Right.result.last
-in_order_right c = (opened_order (heap c.args.b.now) c.in-Right.m c.top_index-ri.result c.open-o-in-Right.result c.open-o-in-Right.ensures).1
+pub overflow_mul-turns : goal.overflow_mul-turns
+overflow_mul-turns c = omega (arith, sizes c)
 
--- the turns that are left after a row
-fewer : (c : After-turns_left-fuel) → c.turns_left-fuel.result ≤ c.loop-fuel.fuel - 1
-fewer c = rw c.turns_left-fuel.ensures (left_le c.args.once c.show-k.result (c.loop-fuel.fuel - 1))
+pub overflow_add-turns-2 : goal.overflow_add-turns-2
+overflow_add-turns-2 c = omega (arith, sizes c)
 
-pub overflow_add-fuel : goal.overflow_add-fuel
-overflow_add-fuel c = omega (arith, sizes c)
-
-pub overflow_mul-fuel : goal.overflow_mul-fuel
-overflow_mul-fuel c = omega (arith, sizes c)
-
-pub overflow_add-fuel-2 : goal.overflow_add-fuel-2
-overflow_add-fuel-2 c = omega (arith, sizes c)
-
-pub loop-fuel-init : goal.loop-fuel-init
-loop-fuel-init c =
+pub loop-turn-init : goal.loop-turn-init
+loop-turn-init c =
     let a = c.args in (
-      going_begins (heap a.b.now) a.once a.wanted a.start a.left a.right _ _ _ _ (ready a.b.now c.requires.0).1 c.requires.1 c.requires.2 c.begin-l.ensures c.begin-r.ensures (rw (c.size_at.ensures, c.size_at-2.ensures)),
-      omega (arith, sizes c),
+      rw (c.begin-l.ensures, c.begin-r.ensures)
+          (going_begins (heap a.b.now) a.once a.wanted a.start a.left a.right _ _ (ready a.b.now c.requires.0).1 c.requires.1 c.requires.2 (rw (c.size_at.ensures, c.size_at-2.ensures) (omega arith))),
+      omega arith,
       refl,
     )
 
-pub returns-then-ln-eq0 : goal.returns-then-ln-eq0
-returns-then-ln-eq0 c =
-    let t = told_total _ _ _ _ _ _ _ (ends c.loop-fuel.invariant.0 c.loop-fuel-test.true c.if-ln-eq0.true) in
-    record { value = t.0; out_after = t.1 }
+pub returns-in_default-clause-value : goal.returns-in_default-clause-value
+returns-in_default-clause-value c = (told_total _ _ _ _ _ _ _ (ends c.loop-turn.invariant.0 (omega (arith, c.loop-turn-test.true)) (sym c.in_default.is ∙ c.top.ensures))).0
+
+pub returns-in_default-clause-out_after : goal.returns-in_default-clause-out_after
+returns-in_default-clause-out_after c = (told_total _ _ _ _ _ _ _ (ends c.loop-turn.invariant.0 (omega (arith, c.loop-turn-test.true)) (sym c.in_default.is ∙ c.top.ensures))).1
 
 pub choose-requires : goal.choose-requires
 choose-requires c =
-    let F = faces c.loop-fuel.invariant.0 c.top_index-ri.result (omega (arith, c.if-ln-eq0.false)) c.top_index-ri.ensures.0 in
     let s = ready c.args.b.now c.requires.0 in
-    (s.0, s.1, stand_a F, stand_z F)
+    let v = c.loop-turn.invariant.0 in
+    (s.0, s.1, stands v (sym c.in-Some.is ∙ c.top.ensures), rw c.top-in-loop-turn.ensures (stands_other v))
 
-pub open-o-requires : goal.open-o-requires
-open-o-requires c =
-    let p = (goal.at.open-o-requires c).After-choose in
-    let v = c.loop-fuel.invariant in
+pub open-requires : goal.open-requires
+open-requires c =
+    let p = chosen (goal.at.open-requires c).After-choose in
+    let v = c.loop-turn.invariant.0 in
     let s = ready c.args.b.now c.requires.0 in
-    (s.0, s.1, fitting v.0 (chosen p) c.in-Left.is, omega (arith, v.0.left.few, (chosen p).some))
+    (s.0, s.1, fitting v p c.in-Left.is, some_left v p)
 
-pub returns-then-last-gt63 : goal.returns-then-last-gt63
-returns-then-last-gt63 c =
-    let p = (goal.at.returns-then-last-gt63 c).After-choose in
-    let t = told_deep _ _ _ _ _ _ _ (deepens_left c.loop-fuel.invariant.0 (chosen p) c.in-Left.is c.«open-o».ensures c.if-last-gt63.true) in
-    record { value = t.0; out_after = t.1 }
+pub returns-in_err-open-in-Left-clause-value : goal.returns-in_err-open-in-Left-clause-value
+returns-in_err-open-in-Left-clause-value c =
+    let e = c.in_err-open-in-Left.ensures in
+    let d = deepens_left c.loop-turn.invariant.0 (chosen (goal.at.returns-in_err-open-in-Left-clause-value c).After-choose) c.in-Left.is e.1 in
+    let p = err_from_is_err_and c.from_residual.result c.from_residual.ensures.1 in
+    rw (p.1, p.2, e.0) (told_deep _ _ _ _ _ _ _ d).0
 
-pub offset_bounds-l-at : goal.offset_bounds-l-at
-offset_bounds-l-at c = omega (arith, in_order (goal.at.offset_bounds-l-at c).After-open-o, c.if-last-gt63.false)
+pub returns-in_err-open-in-Left-clause-out_after : goal.returns-in_err-open-in-Left-clause-out_after
+returns-in_err-open-in-Left-clause-out_after c =
+    let e = c.in_err-open-in-Left.ensures in
+    let d = deepens_left c.loop-turn.invariant.0 (chosen (goal.at.returns-in_err-open-in-Left-clause-out_after c).After-choose) c.in-Left.is e.1 in
+    (told_deep _ _ _ _ _ _ _ d).1
 
-pub bounds-l-at : goal.bounds-l-at
-bounds-l-at c = omega (arith, in_order (goal.at.bounds-l-at c).After-open-o, c.if-last-gt63.false)
-
-pub loop-fuel-preserved-in-Left : goal.loop-fuel-preserved-in-Left
-loop-fuel-preserved-in-Left c =
-    let p = (goal.at.loop-fuel-preserved-in-Left c).After-choose in
-    let v = c.loop-fuel.invariant in
-    (goes_left v.0 (chosen p) c.in-Left.is c.«open-o».ensures c.if-last-gt63.false, omega (arith, v.1), v.2)
-
-pub open-o-requires-in-Right : goal.open-o-requires-in-Right
-open-o-requires-in-Right c =
-    let p = (goal.at.open-o-requires-in-Right c).After-choose in
+pub open-requires-in-Right : goal.open-requires-in-Right
+open-requires-in-Right c =
+    let p = chosen (goal.at.open-requires-in-Right c).After-choose in
+    let f = fitting c.loop-turn.invariant.0 p c.in-Right.is in
     let s = ready c.args.b.now c.requires.0 in
-    (s.0, s.1, (fitting c.loop-fuel.invariant.0 (chosen p) c.in-Right.is).0, c.top_index-ri.ensures.1)
+    (s.0, s.1, f.0, f.1)
 
-pub returns-then-last-gt63-2 : goal.returns-then-last-gt63-2
-returns-then-last-gt63-2 c =
-    let p = (goal.at.returns-then-last-gt63-2 c).After-choose in
-    let t = told_deep _ _ _ _ _ _ _ (deepens_right c.loop-fuel.invariant.0 (chosen p) c.in-Right.is c.open-o-in-Right.ensures c.if-last-gt63-2.true) in
-    record { value = t.0; out_after = t.1 }
+pub returns-in_err-open-in-Right-clause-value : goal.returns-in_err-open-in-Right-clause-value
+returns-in_err-open-in-Right-clause-value c =
+    let e = c.in_err-open-in-Right.ensures in
+    let d = deepens_right c.loop-turn.invariant.0 (chosen (goal.at.returns-in_err-open-in-Right-clause-value c).After-choose) c.in-Right.is e.1 in
+    let p = err_from_is_err_and c.from_residual-in_err-open-in-Right.result c.from_residual-in_err-open-in-Right.ensures.1 in
+    rw (p.1, p.2, e.0) (told_deep _ _ _ _ _ _ _ d).0
 
-pub offset_bounds-r-at : goal.offset_bounds-r-at
-offset_bounds-r-at c = omega (arith, in_order_right (goal.at.offset_bounds-r-at c).After-open-o-in-Right, c.if-last-gt63-2.false)
+pub returns-in_err-open-in-Right-clause-out_after : goal.returns-in_err-open-in-Right-clause-out_after
+returns-in_err-open-in-Right-clause-out_after c =
+    let e = c.in_err-open-in-Right.ensures in
+    let d = deepens_right c.loop-turn.invariant.0 (chosen (goal.at.returns-in_err-open-in-Right-clause-out_after c).After-choose) c.in-Right.is e.1 in
+    (told_deep _ _ _ _ _ _ _ d).1
 
-pub bounds-r-at : goal.bounds-r-at
-bounds-r-at c = omega (arith, in_order_right (goal.at.bounds-r-at c).After-open-o-in-Right, c.if-last-gt63-2.false)
+pub pop-requires : goal.pop-requires
+pop-requires c =
+    let p = chosen (goal.at.pop-requires c).After-choose in
+    let v = c.loop-turn.invariant.0 in
+    omega (arith, (fitting v p c.in-Drop.is).0, some_left v p)
 
-pub loop-fuel-preserved-in-Right : goal.loop-fuel-preserved-in-Right
-loop-fuel-preserved-in-Right c =
-    let p = (goal.at.loop-fuel-preserved-in-Right c).After-choose in
-    let v = c.loop-fuel.invariant in
-    (goes_right v.0 (chosen p) c.in-Right.is c.open-o-in-Right.ensures c.if-last-gt63-2.false, omega (arith, v.1), v.2)
+pub returns-then-once-clause-value : goal.returns-then-once-clause-value
+returns-then-once-clause-value c = (told_total _ _ _ _ _ _ _ (first_found c.loop-turn.invariant.0 (chosen (goal.at.returns-then-once-clause-value c).After-choose) c.in-Give.is c.if-once.true (sym c.show.ensures.0 ∙ c.if-show.true))).0
 
-pub overflow_sub-l : goal.overflow_sub-l
-overflow_sub-l c =
-    let p = (goal.at.overflow_sub-l c).After-choose in
-    omega (arith, (fitting c.loop-fuel.invariant.0 (chosen p) c.in-Drop.is).0, (chosen p).some)
+pub returns-then-once-clause-out_after : goal.returns-then-once-clause-out_after
+returns-then-once-clause-out_after c =
+    c.show.ensures.1 ∙ (told_total _ _ _ _ _ _ _ (first_found c.loop-turn.invariant.0 (chosen (goal.at.returns-then-once-clause-out_after c).After-choose) c.in-Give.is c.if-once.true (sym c.show.ensures.0 ∙ c.if-show.true))).1
 
-pub loop-fuel-preserved-in-Drop : goal.loop-fuel-preserved-in-Drop
-loop-fuel-preserved-in-Drop c =
-    let p = (goal.at.loop-fuel-preserved-in-Drop c).After-choose in
-    let v = c.loop-fuel.invariant in
-    (goes_down v.0 (chosen p) c.in-Drop.is, omega (arith, v.1), v.2)
+pub loop-turn-preserved : goal.loop-turn-preserved
+loop-turn-preserved c =
+    let p = (goal.at.loop-turn-preserved c).After-choose in
+    let v = c.loop-turn.invariant in
+    let C = chosen p in
+    let e : left p - 1 ≡ 2 * (c.size_at.result + c.size_at-2.result) + 1 - (c.loop-turn._turn + 1) = omega arith in
+    elim c.match-choose.branch [
+      | in-Left+in_ok-open-in-Left w ↦ let o = w.in_ok-open-in-Left.ensures in (
+        rw (w.l-is, w.r-is, w.n-is, w.out-is, o.0, ← e) (goes_left v.0 C w.in-Left.is o.1),
+        omega (arith, w.n-is, v.1),
+        rw w.out-is v.2,
+      )
+      | in-Right+in_ok-open-in-Right w ↦ let o = w.in_ok-open-in-Right.ensures in (
+        rw (w.l-is, w.r-is, w.n-is, w.out-is, o.0, ← e) (goes_right v.0 C w.in-Right.is o.1),
+        omega (arith, w.n-is, v.1),
+        rw w.out-is v.2,
+      )
+      | in-Drop w ↦ (
+        rw (w.l-is, w.r-is, w.n-is, w.out-is, w.pop.ensures, w.pop-in-Drop.ensures, ← e) (goes_down v.0 C w.in-Drop.is),
+        omega (arith, w.n-is, v.1),
+        rw w.out-is v.2,
+      )
+      | in-Give+then-show+else-once w ↦ (
+        rw (w.l-is, w.r-is, w.n-is, w.out-is, w.pop-in-Give.ensures, w.pop-in-Give-2.ensures, w.from.ensures, w.is_some.ensures, pops_is w.in-Give.y, w.show.ensures.1, ← e)
+            (goes_on v.0 C w.in-Give.is w.if-once.false (sym w.show.ensures.0 ∙ w.if-show.true)),
+        omega (arith, w.n-is, v.1),
+        rw w.out-is (w.show.auto.out ∙ v.2),
+      )
+      | in-Give+else-show w ↦ (
+        rw (w.l-is, w.r-is, w.n-is, w.out-is, w.pop-in-Give.ensures, w.pop-in-Give-2.ensures, w.from.ensures, w.is_some.ensures, pops_is w.in-Give.y, w.show.ensures.1, ← e)
+            (goes_past v.0 C w.in-Give.is (sym w.show.ensures.0 ∙ w.if-show.false)),
+        omega (arith, w.n-is, v.1),
+        rw w.out-is (w.show.auto.out ∙ v.2),
+      )
+    ]
 
-pub overflow_sub-r : goal.overflow_sub-r
-overflow_sub-r c =
-    let p = (goal.at.overflow_sub-r c).After-choose in
-    omega (arith, fitting c.loop-fuel.invariant.0 (chosen p) c.in-Give.is, c.pops.ensures)
+pub returns-clause-value : goal.returns-clause-value
+returns-clause-value c = (told_total _ _ _ _ _ _ _ (stops c.loop-turn.invariant.0 (omega (arith, c.loop-turn-test.false)))).0
 
-pub overflow_add-n : goal.overflow_add-n
-overflow_add-n c =
-    let v = c.loop-fuel.invariant in
-    let one = counted_le c.args.wanted (row c.in-Give.y) in
-    omega (arith, v.1, c.show-k.ensures.0)
-
-pub loop-fuel-smaller : goal.loop-fuel-smaller
-loop-fuel-smaller c =
-    let p = goal.at.loop-fuel-smaller c in
-    omega (arith, fewer p.After-turns_left-fuel, (chosen p.After-choose).turns)
-
-pub loop-fuel-preserved : goal.loop-fuel-preserved
-loop-fuel-preserved c =
-    let p = goal.at.loop-fuel-preserved c in
-    let C = chosen p.After-choose in
-    let v = c.loop-fuel.invariant in
-    let s = c.show-k in
-    let one = counted_le c.args.wanted (row c.in-Give.y) in
-    (goes_on v.0 C c.in-Give.is c.pops.ensures s.ensures.0 s.ensures.1 c.turns_left-fuel.ensures, omega (arith, v.1, s.ensures.0, fewer p.After-turns_left-fuel, C.turns), s.auto.out ∙ v.2)
-
-pub returns : goal.returns
-returns c =
-    let t = told_total _ _ _ _ _ _ _ (stops c.loop-fuel.invariant.0 (omega arith)) in
-    record { value = t.0; out_after = t.1 }
+pub returns-clause-out_after : goal.returns-clause-out_after
+returns-clause-out_after c = (told_total _ _ _ _ _ _ _ (stops c.loop-turn.invariant.0 (omega (arith, c.loop-turn-test.false)))).1
