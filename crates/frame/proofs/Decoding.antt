@@ -5,15 +5,15 @@ use mathlib.Core.Logic.{◌≢◌}
 use Prim.Native.Nat.{ℕ, zero, suc, ◌+◌, ◌-◌, ◌*◌, ◌/◌, ◌%◌, ◌^◌, ◌≤◌, ◌<◌}
 use mathlib.Core.Bool.{Bool, true, false}
 use mathlib.Core.Option.{Option, none, some}
-use mathlib.Core.List.{List, [], ◌∷◌, ◌++◌}
+use mathlib.Core.List.{List, [], ◌∷◌}
 use lib.ListN.{length, get_or, take, drop, length-drop}
-use lib.Seq.{take-suc, take-add, drop-drop, get_or-drop, length-take-le}
+use lib.Seq.{get_or-take, get_or-drop, length-take-le}
 use lib.Dec.{ltb}
 use lib.Bits.{bit_and, and_zero_r, and_block, and_mask}
 use borrow.Author.Tests.{ltb-true, ltb-false}
 use native.Mathlib.Omega.{arith}
-use native.Mathlib.Nat.{pow-suc, pow-le-pow_right}
-use native.Mathlib.Numerals.{add-one}
+use native.Mathlib.Nat.{add-zero}
+use Rattle.std.specs.Int.{w64, from_be_bytes}
 use Rattle.model.specs.Frame.{digit, value, number, field}
 use Rattle.model.proofs.link.Digits.{value-digit, digit_value}
 use Rattle.frame.specs.Eights.{high_first, values_of, texts_of, pairs_of, fours_of, packed_of}
@@ -335,53 +335,22 @@ module _ (line : List ℕ) (at : ℕ) (inside : at + 8 ≤ length line) (f : (i 
   pub says_eight : {p : ℕ} → t ≡ x → p ≡ packed_of n → some p ≡ field line at 8
   says_eight e q = ap some (q ∙ ap packed_of (v ∙ ap values_of is)) ∙ by_eight Good eight_good (take 8 (drop at line)) long bytes (sym texts_here ∙ e ∙ is)
 
--- The bytes are taken in one after another.
-high_append : (n : ℕ) (xs ys : List ℕ) → high_first n (xs ++ ys) ≡ high_first (high_first n xs) ys
+-- The eight bytes by their places, the first highest.
+
+abbrev First : List ℕ → Type 0
+First ds = from_be_bytes w64 (get_or ds 0 0 ∷ get_or ds 1 0 ∷ get_or ds 2 0 ∷ get_or ds 3 0 ∷ get_or ds 4 0 ∷ get_or ds 5 0 ∷ get_or ds 6 0 ∷ get_or ds 7 0 ∷ []) ≡ high_first 0 ds
+
+first_eight : (c7 c6 c5 c4 c3 c2 c1 c0 : ℕ) → First (c7 ∷ c6 ∷ c5 ∷ c4 ∷ c3 ∷ c2 ∷ c1 ∷ c0 ∷ [])
 unfolding high_first
-high_append n [] ys = refl
-high_append n (x ∷ xs) ys = high_append (n * 256 + x) xs ys
+first_eight c7 c6 c5 c4 c3 c2 c1 c0 = omega arith
 
--- and a number before them goes up by as many places
-high_behind : (n : ℕ) (xs : List ℕ) → high_first n xs ≡ n * 256 ^ length xs + high_first 0 xs
-unfolding high_first
-high_behind n [] = omega arith
-high_behind n (c ∷ cs) = rw (pow-suc 256 (length cs)) (omega (arith, high_behind (n * 256 + c) cs, high_behind (0 * 256 + c) cs))
-
--- j of the four bytes from `at` on gave x
-pub record Taken (cs : List ℕ) (at x j : ℕ) : Type 0 where
-  pub upto : j ≤ 4
-  pub is : x ≡ high_first 0 (take j (drop at cs))
-  pub small : x < 256 ^ j
-
-pub taken_none : (cs : List ℕ) (at : ℕ) → Taken cs at 0 0
-unfolding high_first
-taken_none cs at = record { upto = omega arith; is = refl; small = omega arith }
-
-module _ {cs : List ℕ} {at x j : ℕ} (T : Taken cs at x j) where
-  pub taken_more : at + 4 ≤ length cs → j < 4 → get_or cs (at + j) 0 < 256 → Taken cs at (x * 256 + get_or cs (at + j) 0) (j + 1)
-  unfolding high_first
-  taken_more inside h b =
-      let more = take-suc (drop at cs) j 0 (omega (arith, length-drop at cs, inside)) in
-      let last = get_or-drop at cs j 0 in
-      record {
-        upto = omega arith;
-        is = rw (add-one, more, last, high_append 0 (take j (drop at cs)) (get_or cs (at + j) 0 ∷ []), ← T.is);
-        small = rw (add-one, pow-suc 256 j) (omega (arith, T.small));
-      }
-
-  pub taken_small : x < 4294967296
-  taken_small =
-      let most = pow-le-pow_right {n = 256} (omega arith) {i = j} {j = 4} T.upto in
-      omega (arith, T.small, most)
-
-  pub taken-all : 4 ≤ j → x ≡ high_first 0 (take 4 (drop at cs))
-  taken-all h = let e : j ≡ 4 = omega (arith, T.upto) in T.is ∙ ap (λ k. high_first 0 (take k (drop at cs))) e
-
--- two times four are eight
-pub high_eight : (cs : List ℕ) (at : ℕ) → at + 8 ≤ length cs → {x y : ℕ} → x ≡ high_first 0 (take 4 (drop at cs)) → y ≡ high_first 0 (take 4 (drop (at + 4) cs))
-    → x * 4294967296 + y ≡ high_first 0 (take 8 (drop at cs))
-high_eight cs at inside {x} {y} p q =
-    let ys = take 4 (drop (at + 4) cs) in
-    let long = length-take-le 4 (drop (at + 4) cs) (omega (arith, length-drop (at + 4) cs)) in
-    let behind : high_first x ys ≡ x * 4294967296 + high_first 0 ys = rw long at (high_behind x ys) in
-    rw (take-add 4 4 (drop at cs), drop-drop 4 at cs, high_append 0 (take 4 (drop at cs)) ys, ← p) (omega (arith, q, behind))
+pub high_eight : (cs : List ℕ) (at : ℕ) → at + 8 ≤ length cs
+    → from_be_bytes w64 (get_or cs at 0 ∷ get_or cs (at + 1) 0 ∷ get_or cs (at + 2) 0 ∷ get_or cs (at + 3) 0 ∷ get_or cs (at + 4) 0 ∷ get_or cs (at + 5) 0 ∷ get_or cs (at + 6) 0 ∷ get_or cs (at + 7) 0 ∷ [])
+    ≡ high_first 0 (take 8 (drop at cs))
+high_eight cs at inside =
+    let first : get_or cs at 0 ≡ get_or (take 8 (drop at cs)) 0 0 = rw add-zero at (here 0 (omega arith)) in
+    rw (first, here 1 (omega arith), here 2 (omega arith), here 3 (omega arith), here 4 (omega arith), here 5 (omega arith), here 6 (omega arith), here 7 (omega arith))
+    (by_eight First first_eight (take 8 (drop at cs)) (length-take-le 8 (drop at cs) (omega (arith, length-drop at cs))))
+  where
+    here : (j : ℕ) → j < 8 → get_or cs (at + j) 0 ≡ get_or (take 8 (drop at cs)) j 0
+    here j h = sym (get_or-take 8 (drop at cs) j 0 h ∙ get_or-drop at cs j 0)

@@ -1,9 +1,9 @@
 -- Eight digits at once: what is done to a word is done to each of its bytes, as no sum carries from one byte to the next.
 use mathlib.Core.Path.{◌≡◌, refl, ap, ap₂, ◌∙◌}
-use Prim.Native.Nat.{ℕ, zero, suc, ◌+◌, ◌*◌, ◌/◌, ◌%◌, ◌^◌, ◌≤◌, ◌<◌}
+use Prim.Native.Nat.{ℕ, zero, suc, ◌+◌, ◌*◌, ◌/◌, ◌%◌, ◌^◌, ◌<◌}
 use mathlib.Core.List.{List, [], ◌∷◌}
 use native.Mathlib.Omega.{arith}
-use lib.Bits.{bit_and, and_zero_r, and_block, and_mask, and_le_r}
+use lib.Bits.{bit_and, and_zero_r, and_block, and_mask}
 use Rattle.model.specs.Frame.{digit}
 use Rattle.frame.specs.Alternate.{alternate}
 use Rattle.frame.proofs.Values.{digit-sum}
@@ -79,9 +79,6 @@ module _ (x : ℕ) where
 
   nibbles_word : nibbles ≡ word places
   nibbles_word = omega (arith, masked 4 x, masked 4 (x / 16))
-
-  pub nibbles_most : nibbles ≤ 1085102592571150095
-  nibbles_most = omega (arith, and_le_r x 252645135, and_le_r (x / 16) 252645135)
 
   pub eight : nibbles + 3472328296227680304 + 39 * bit_and ((nibbles + 434041037028460038) / 16) 72340172838076673 ≡ alternate 4 x + 4294967296 * alternate 4 (x / 16)
   unfolding alternate

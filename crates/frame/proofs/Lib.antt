@@ -1,4 +1,3 @@
-pub mod Legality
 pub mod Values
 pub mod Eights
 pub mod Reading

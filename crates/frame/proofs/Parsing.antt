@@ -1,24 +1,23 @@
 -- A line's fields are read in order, and the first that is no number makes the whole none.
 use mathlib.Core.Path.{◌≡◌, refl, ap, sym, ◌∙◌}
-use mathlib.Core.Logic.{◌⊎◌, inl, inr}
+use Rattle.std.specs.Prelude.{Result, Ok, Err, IsErrAnd}
+use Rattle.std.proofs.lemmas.Result.{err_from_is_err_and}
 use Prim.Native.Nat.{ℕ, ◌/◌, ◌%◌}
 use mathlib.Core.Option.{Option, none, some}
 use mathlib.Core.List.{List}
 use native.Mathlib.Omega.{arith}
 use lib.ListN.{length}
 use Rattle.model.specs.Frame.{◌>>=◌, Frame, field, fields, good, fault, first_bad, read}
-use Rattle.model.specs.Numbers.{DIGIT}
 use Rattle.model.proofs.link.Lines.{Closed, read_digit}
-use Rattle.frame.specs.declared.Number.{Number}
-use Rattle.frame.specs.Fields.{said, field_read, fields_read}
+use Rattle.answers.specs.declared.Fault.{Fault}
+use Rattle.answers.specs.declared.Fault.TheVariants.{Digit}
+use Rattle.answers.specs.Numbers.{fault_number, fault_place}
+use Rattle.frame.specs.declared.Frame as code
+use Rattle.frame.specs.Fields.{parsed, field_read, fields_read}
 use Rattle.frame.proofs.Reading.{side_by_side}
 
--- what an answer that is x says
-pub says : {r x : Number} {o : ℕ ⊎ ℕ} → said r ≡ o → r ≡ x → said x ≡ o
-says e g = ap said (sym g) ∙ e
-
 -- a field's number; where it has none, so has the whole, and the place is the first bad one
-pub field_is : (cs : List ℕ) (at k : ℕ) {n : ℕ} → inl n ≡ field_read cs at k → some n ≡ field cs at k
+pub field_is : (cs : List ℕ) (at k : ℕ) {n : ℕ} → Ok n ≡ field_read cs at k → some n ≡ field cs at k
 unfolding field_read
 field_is cs at k {n} e = go (field cs at k) refl
   where
@@ -26,15 +25,16 @@ field_is cs at k {n} e = go (field cs at k) refl
     go none q = let z : ◌≡◌ {A = ℕ} 0 1 = cc (rw (q, field_read) at e) in absurd (omega arith)
     go (some m) q = ap some (cc (rw (q, field_read) at e))
 
-pub field-not : (cs : List ℕ) (at k : ℕ) {p : ℕ} → inr p ≡ field_read cs at k → (none ≡ field cs at k → none ≡ fields cs) → fault DIGIT p ≡ fields_read cs
+pub field-not : (cs : List ℕ) (at k : ℕ) {e : Fault} (r : Result code.Frame Fault) → IsErrAnd r (λ y. y ≡ e) → Err e ≡ field_read cs at k → (none ≡ field cs at k → none ≡ fields cs)
+    → parsed r ≡ fields_read cs
 unfolding field_read fields_read
-field-not cs at k {p} e no_fields = go (field cs at k) refl
+field-not cs at k {e} r told h no_fields = let p = err_from_is_err_and r told in rw (p.1, p.2) (go (field cs at k) refl)
   where
-    go : (o : Option ℕ) → field cs at k ≡ o → fault DIGIT p ≡ fields_read cs
+    go : (o : Option ℕ) → field cs at k ≡ o → fault (fault_number e) (fault_place e) ≡ fields_read cs
     go none q =
-        let first : p ≡ first_bad cs = cc (rw (q, field_read) at e) in
-        rw (sym (no_fields (sym q)), fields_read) (ap (fault DIGIT) first)
-    go (some m) q = let z : ◌≡◌ {A = ℕ} 0 1 = cc (rw (q, field_read) at e) in absurd (omega arith)
+        let first : e ≡ Digit (first_bad cs) = cc (rw (q, field_read) at h) in
+        rw (sym (no_fields (sym q)), fields_read) (ap (λ f. fault (fault_number f) (fault_place f)) first)
+    go (some m) q = absurd (cc (rw (q, field_read) at h))
 
 -- the fields as they are read: index and count are one number
 module _ (cs : List ℕ) where
@@ -94,10 +94,10 @@ module _ (cs : List ℕ) where
       go none q = let z : ◌≡◌ {A = ℕ} 0 1 = cc (rw (q, fields_read) at e) in absurd (omega arith)
       go (some g) q = ap some (sym (cc (rw (q, fields_read) at e)))
 
-  pub no_fields : {n p : ℕ} → Closed cs → fault n p ≡ fields_read cs → fault n p ≡ read cs
+  pub no_fields : (e : Fault) (r : Result code.Frame Fault) → IsErrAnd r (λ y. y ≡ e) → Closed cs → fault (fault_number e) (fault_place e) ≡ fields_read cs → parsed r ≡ read cs
   unfolding fields_read
-  no_fields {n} {p} C e = go (fields cs) refl
+  no_fields e r told C h = let p = err_from_is_err_and r told in rw (p.1, p.2) (go (fields cs) refl)
     where
-      go : (o : Option Frame) → fields cs ≡ o → fault n p ≡ read cs
-      go none q = rw (q, fields_read) at e ∙ sym (read_digit cs C q)
-      go (some g) q = let z : ◌≡◌ {A = ℕ} 0 1 = cc (rw (q, fields_read) at e) in absurd (omega arith)
+      go : (o : Option Frame) → fields cs ≡ o → fault (fault_number e) (fault_place e) ≡ read cs
+      go none q = rw (q, fields_read) at h ∙ sym (read_digit cs C q)
+      go (some g) q = absurd (cc (rw (q, fields_read) at h))

@@ -1,7 +1,7 @@
 -- Digits are read one after another: those that are left, behind the number so far, say what all of them say.
-use mathlib.Core.Path.{◌≡◌, refl, ap, ap₂, sym, ◌∙◌}
-use mathlib.Core.Logic.{inl, inr}
-use Prim.Native.Nat.{ℕ, suc, ◌+◌, ◌*◌, ◌/◌, ◌%◌, ◌^◌, ◌≤◌, ◌<◌}
+use mathlib.Core.Path.{◌≡◌, refl, ap, ap₂, sym}
+use Rattle.std.specs.Prelude as code
+use Prim.Native.Nat.{ℕ, suc, ◌+◌, ◌-◌, ◌*◌, ◌/◌, ◌%◌, ◌^◌, ◌≤◌, ◌<◌}
 use mathlib.Core.Option.{Option, none, some}
 use mathlib.Core.List.{List, [], ◌∷◌, ◌++◌}
 use native.Mathlib.Numerals.{add-one}
@@ -11,15 +11,11 @@ use lib.ListN.{length, get_or, take, drop, length-drop, drop_of_length-le}
 use lib.Seq.{take-add, drop-drop, drop-cons, length-take-le, get_or-take, get_or-drop}
 use Rattle.model.specs.Frame.{◌>>=◌, value, number, field, first_bad}
 use Rattle.model.proofs.link.Digits.{digit_value, digits_number, first_bad_lem, first_more}
-use Rattle.frame.specs.declared.Digit.{Digit}
-use Rattle.frame.specs.Fields.{digit_of, field_read}
-
--- what an answer that is x says
-pub digit_says : {r x : Digit} {o : Option ℕ} → digit_of r ≡ o → r ≡ x → digit_of x ≡ o
-digit_says e g = ap digit_of (sym g) ∙ e
+use Rattle.answers.specs.declared.Fault.TheVariants.{Digit}
+use Rattle.frame.specs.Fields.{field_read}
 
 -- what a field that is a number says
-pub field_says : (cs : List ℕ) (at k n : ℕ) → some n ≡ field cs at k → inl n ≡ field_read cs at k
+pub field_says : (cs : List ℕ) (at k n : ℕ) → some n ≡ field cs at k → code.Ok n ≡ field_read cs at k
 unfolding field_read
 field_says cs at k n e = rw (sym e, field_read) refl
 
@@ -30,46 +26,46 @@ pub record Reads (cs : List ℕ) (at k n j : ℕ) : Type 0 where
   pub good : at + j ≤ first_bad cs
   pub rest : number n (drop j (take k (drop at cs))) ≡ field cs at k
 
--- none yet
-pub reads_none : (cs : List ℕ) (at k : ℕ) → at ≤ first_bad cs → Reads cs at k 0 0
-reads_none cs at k before = record { within = omega arith; small = omega arith; good = omega (arith, before); rest = refl }
-
-module _ {cs : List ℕ} {at k n j : ℕ} (R : Reads cs at k n j) (inside : at + k ≤ length cs) where
+module _ {cs : List ℕ} {at k n : ℕ} (i : ℕ) (R : Reads cs at k n (i - at)) (inside : at + k ≤ length cs) where
   long : length (take k (drop at cs)) ≡ k
   long = length-take-le k (drop at cs) (omega (arith, length-drop at cs))
 
-  next : j < k → drop j (take k (drop at cs)) ≡ get_or cs (at + j) 0 ∷ drop (j + 1) (take k (drop at cs))
-  next h = rw (add-one, drop-cons (take k (drop at cs)) j 0 (omega (arith, long)), get_or-take k (drop at cs) j 0 h, get_or-drop at cs j 0)
+  next : at ≤ i → i < at + k → drop (i - at) (take k (drop at cs)) ≡ get_or cs i 0 ∷ drop (i - at + 1) (take k (drop at cs))
+  next l h =
+      let e : at + (i - at) ≡ i = omega arith in
+      rw (add-one, drop-cons (take k (drop at cs)) (i - at) 0 (omega (arith, long)), get_or-take k (drop at cs) (i - at) 0 (omega arith), get_or-drop at cs (i - at) 0, e) refl
 
   -- a byte that is no digit makes the whole none, and is the line's first
-  pub reads_bad : j < k → none ≡ value (get_or cs (at + j) 0) → inr (at + j) ≡ field_read cs at k
+  pub reads_bad : at ≤ i → i < at + k → none ≡ value (get_or cs i 0) → code.Err (Digit i) ≡ field_read cs at k
   unfolding number field_read
-  reads_bad h e =
-      let z : none ≡ field cs at k = rw (sym e, number) at (rw (next h) at R.rest) in
-      rw (sym z, field_read) (ap inr (first_bad_lem cs (at + j) R.good (sym e)))
+  reads_bad l h e =
+      let z : none ≡ field cs at k = rw (sym e, number) at (rw (next l h) at R.rest) in
+      rw (sym z, field_read) (ap (λ p. code.Err (Digit p)) (first_bad_lem cs i (omega (arith, R.good)) (sym e)))
 
   -- a digit is taken in
-  pub reads_more : (d : ℕ) → j < k → some d ≡ value (get_or cs (at + j) 0) → Reads cs at k (n * 16 + d) (j + 1)
+  pub reads_more : (d : ℕ) → at ≤ i → i < at + k → some d ≡ value (get_or cs i 0) → Reads cs at k (n * 16 + d) (i + 1 - at)
   unfolding number
-  reads_more d h e = record {
-    within = omega arith;
-    small = rw (add-one, pow-suc 16 j) (omega (arith, R.small, (digit_value (get_or cs (at + j) 0) d (sym e)).1));
-    good = omega (arith, first_more cs (at + j) d R.good (omega (arith, inside)) (sym e));
-    rest = rw (sym e, number) at (rw (next h) at R.rest);
-  }
+  reads_more d l h e =
+      let step : i + 1 - at ≡ i - at + 1 = omega arith in
+      rw step (record {
+        within = omega arith;
+        small = rw (add-one, pow-suc 16 (i - at)) (omega (arith, R.small, (digit_value (get_or cs i 0) d (sym e)).1));
+        good = omega (arith, first_more cs i d (omega (arith, R.good)) (omega (arith, inside)) (sym e));
+        rest = rw (sym e, number) at (rw (next l h) at R.rest);
+      })
 
   -- which fits, as there are at most eight
-  pub reads_fit : (d : ℕ) → k ≤ 8 → j < k → some d ≡ value (get_or cs (at + j) 0) → n * 16 + d < 2 ^ 32
-  reads_fit d short h e =
-      let most = pow-le-pow_right {n = 16} (omega arith) {i = j + 1} {j = 8} (omega arith) in
-      omega (arith, (reads_more d h e).small, most)
+  pub reads_fit : (d : ℕ) → k ≤ 8 → at ≤ i → i < at + k → some d ≡ value (get_or cs i 0) → n * 16 + d < 2 ^ 32
+  reads_fit d short l h e =
+      let most = pow-le-pow_right {n = 16} (omega arith) {i = i + 1 - at} {j = 8} (omega arith) in
+      omega (arith, (reads_more d l h e).small, most)
 
   -- all are read
-  pub reads_all : k ≤ j → inl n ≡ field_read cs at k
+  pub reads_all : at + k ≤ i → code.Ok n ≡ field_read cs at k
   unfolding number field_read
   reads_all h =
-      let e : j ≡ k = omega (arith, R.within) in
-      let z : drop j (take k (drop at cs)) ≡ [] = rw e (drop_of_length-le (take k (drop at cs)) {i = k} (omega (arith, long))) in
+      let e : i - at ≡ k = omega (arith, R.within) in
+      let z : drop (i - at) (take k (drop at cs)) ≡ [] = rw e (drop_of_length-le (take k (drop at cs)) {i = k} (omega (arith, long))) in
       let all : some n ≡ field cs at k = rw z at R.rest in
       rw (sym all, field_read)
 

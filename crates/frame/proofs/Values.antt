@@ -1,5 +1,5 @@
 -- A digit's byte and a byte's digit by the tests that the code makes.
-use mathlib.Core.Path.{◌≡◌, refl}
+use mathlib.Core.Path.{◌≡◌, refl, ap}
 use Prim.Native.Nat.{ℕ, ◌+◌, ◌-◌, ◌*◌, ◌/◌, ◌≤◌, ◌<◌}
 use mathlib.Core.List.{[], ◌∷◌}
 use mathlib.Core.Bool.{Bool, true, false}
@@ -37,9 +37,9 @@ unfolding value
 value_low c p q = rw (le-leb 48 c p, lt-ltb c 58 q, value)
 
 -- a to f
-pub value_high : (c : ℕ) → 97 ≤ c → c < 103 → some (c - 87) ≡ value c
+pub value_high : (c : ℕ) → 97 ≤ c → c < 103 → some (c - 97 + 10) ≡ value c
 unfolding value
-value_high c p q = rw (le-leb 48 c (omega arith), le-ltb c 58 (omega arith), value) (rw (le-leb 97 c p, lt-ltb c 103 q))
+value_high c p q = rw (le-leb 48 c (omega arith), le-ltb c 58 (omega arith), value) (rw (le-leb 97 c p, lt-ltb c 103 q) (ap some (omega arith)))
 
 -- no other byte: before, between, after
 pub value_before : (c : ℕ) → c < 48 → none ≡ value c

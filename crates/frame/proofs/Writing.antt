@@ -4,7 +4,7 @@ use Prim.Native.Nat.{ℕ, zero, suc, ◌+◌, ◌-◌, ◌*◌, ◌/◌, ◌%◌
 use mathlib.Core.List.{List, [], ◌∷◌, ◌++◌, append_assoc}
 use native.Mathlib.Numerals.{sub-one}
 use native.Mathlib.Omega.{arith}
-use lib.ListN.{length, get_or, take, drop, set, length-append, length-drop, drop_of_length-le, take-append-drop}
+use lib.ListN.{length, get_or, take, drop, set, length-append, drop_of_length-le, take-append-drop}
 use lib.Seq.{take-suc, drop-cons, append_snoc, set_at, take_at, get_or_at, length-take-le, take_all, drop-append-add, drop-drop}
 use Rattle.model.specs.Frame.{Frame, digit, digits, line}
 use Rattle.model.proofs.link.Digits.{length_digits}
@@ -28,15 +28,6 @@ puts_none o at k x h =
       left = sym (take_all k (digits k x) (omega arith));
       written = rw (drop_of_length-le (digits k x) {i = k} (omega arith), take-append-drop (at + k) o);
     }
-
--- the length stays
-pub puts-length : {o out : List ℕ} {at k x j y : ℕ} → Puts o out at k x j y → length out ≡ length o
-puts-length {o} {out} {at} {k} {x} {j} P =
-    let D = digits k x in
-    let whole = length-append (take (at + j) o) (drop j D ++ drop (at + k) o) in
-    let behind = length-append (drop j D) (drop (at + k) o) in
-    let kept = length-take-le (at + j) o (omega (arith, P.within, P.inside)) in
-    rw P.written (omega (arith, P.within, P.inside, whole, behind, kept, length-drop j D, length-drop (at + k) o, length_digits k x))
 
 -- the last of some digits
 last : (D xs : List ℕ) (d i : ℕ) → xs ++ (d ∷ []) ≡ take (suc i) D → length xs ≡ i → i < length D → (xs ≡ take i D) × (d ≡ get_or D i 0)
@@ -70,10 +61,6 @@ puts_more {o} {out} {at} {k} {x} {y} (suc i) P h =
       left = w.0;
       written = put o D (drop (at + k) o) at i (digit (y % 16)) w.1 l (omega (arith, P.within, P.inside));
     })
-
--- at the end all are
-pub puts-all : {o out : List ℕ} {at k x j y : ℕ} → Puts o out at k x j y → j ≡ 0 → out ≡ take at o ++ (digits k x ++ drop (at + k) o)
-puts-all {o} {out} {at} {k} {x} P z = let e : at + 0 ≡ at = omega arith in rw (z, e) at P.written
 
 -- what is left of x is `rest`: one half has its digits at even places, the other those at odd places
 pub record Halves (o out : List ℕ) (at k x j low high : ℕ) : Type 0 where

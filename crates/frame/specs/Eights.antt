@@ -1,13 +1,6 @@
 -- Eight bytes as one word, and what sums make of it.
 use Rattle.std.specs.Prelude.{ℕ, ◌+◌, ◌*◌, ◌/◌, ◌%◌, List, [], ◌∷◌}
-use Rattle.std.proofs.Math.Option.{Option, none, some}
 use Rattle.std.specs.Int.Bits.{bit_and}
-use Rattle.frame.specs.declared.word.Eight.{Eight}
-use Rattle.frame.specs.declared.word.Eight.TheVariants.{Is, None}
-
-abbrev pub eight_of : Eight → Option ℕ
-eight_of (Is n) = some n
-eight_of None = none
 
 -- bytes as one number, the first highest, behind those that gave n
 unfoldable pub high_first : ℕ → List ℕ → ℕ

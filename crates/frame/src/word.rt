@@ -2,14 +2,8 @@
 ghost use Rattle.std.specs.Prelude.{◌≡◌, ◌+◌, ◌*◌, ◌/◌, ◌<◌, ◌≤◌, length, take, drop};
 ghost use Rattle.std.specs.Int.Bits.{bit_and};
 ghost use Rattle.model.specs.Frame as model;
-ghost use Rattle.frame.specs.Eights.{eight_of, high_first, values_of, texts_of, packed_of};
-
-// What eight digits say: a number, or none where a byte is no digit.
-#[derive(Clone, Copy)]
-pub enum Eight {
-    Is(u32),
-    None,
-}
+ghost use Rattle.answers.specs.Answers.{answer};
+ghost use Rattle.frame.specs.Eights.{high_first, values_of, texts_of, packed_of};
 
 // The bytes of eight digits, a digit below 16 in each byte of n: 48 + n, and 39 more where n + 6 carries out of its four bits, so from 10 on.
 pub fn texts(n: u64) -> u64
@@ -40,37 +34,29 @@ fn packed(n: u64) -> u32
     ((z + z / 65536) % 4294967296) as u32
 }
 
-// Four bytes from `at` on as one number, the first highest.
-fn four(line: &[u8], at: usize) -> u64
-    requires { at + 4 ≤ length line.now }
-    ensures { (result ≡ high_first 0 (take 4 (drop at line.now))) × (result < 4294967296) }
-{
-    let mut x: u64 = 0;
-    let mut j: usize = 0;
-    while j < 4 {
-        x = x * 256 + (line[at + j] as u64);
-        j = j + 1;
-    }
-    x
-}
-
-// The eight bytes from `at` on as one number, the first highest. By halves, of which the compiler makes one load; eight steps in a row are too deep for it to see that.
+// The eight bytes from `at` on as one number, the first highest.
 fn bytes_at(line: &[u8], at: usize) -> u64
     requires { at + 8 ≤ length line.now }
     ensures { result ≡ high_first 0 (take 8 (drop at line.now)) }
 {
-    four(line, at) * 4294967296 + four(line, at + 4)
+    u64::from_be_bytes([
+        line[at],
+        line[at + 1],
+        line[at + 2],
+        line[at + 3],
+        line[at + 4],
+        line[at + 5],
+        line[at + 6],
+        line[at + 7],
+    ])
 }
 
 // The number in the eight digits from `at` on. The bytes are digits exactly where they are the bytes of what they would stand for.
-pub fn read_eight(line: &[u8], at: usize) -> Eight
+pub fn read_eight(line: &[u8], at: usize) -> Option<u32>
     requires { at + 8 ≤ length line.now }
-    ensures { eight_of result ≡ model.field line.now at 8 }
+    ensures { answer result ≡ model.field line.now at 8 }
 {
     let x = bytes_at(line, at);
     let n = values(x);
-    if texts(n) != x {
-        return Eight::None;
-    }
-    Eight::Is(packed(n))
+    if texts(n) == x { Some(packed(n)) } else { None }
 }

@@ -7,15 +7,11 @@ use lib.ListN.{length, set, replicate}
 use borrow.Author.Tests.{eq-eqb, ne_eqb}
 use Rattle.model.specs.Calls.{passes}
 use Rattle.model.specs.Inbox.{count_of, SoundInbox, begun, missing, question}
-use Rattle.model.specs.Link.{CheckedInbox, Begin, Missing}
-use Rattle.model.proofs.calls.Checks.{check_map}
+use Rattle.model.specs.Link.{Begin, Missing}
 
 pub begun-done : {x y : List ℕ} (batch : ℕ) → length x ≡ 130 → y ≡ replicate (length x) 0 → Begin x (set y 0 batch) batch 0
 unfolding begun
 begun-done batch l e = passes l (refl, ap (λ z. set z 0 batch) (e ∙ ap (λ n. replicate n 0) l))
-
-pub asked-refused : {x : List ℕ} {n : ℕ} → CheckedInbox x n → n ≢ 0 → Missing x n 0
-asked-refused C ne = check_map C (λ e. (e, refl)) (λ C. check_map C (λ e. (e, refl)) (λ e. absurd (ne e)))
 
 pub asked_uncounted : {x : List ℕ} → SoundInbox x → count_of x ≡ 0 → Missing x 0 4294967295
 unfolding question

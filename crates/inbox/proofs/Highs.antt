@@ -1,5 +1,9 @@
 -- A word has no bit from k on exactly when it is 0 after a shift by k; so the heard words are tested one at a time.
-use mathlib.Core.Path.{◌≡◌, sym, subst}
+use mathlib.Core.Path.{◌≡◌, refl, sym, subst, ◌∙◌}
+use mathlib.Core.Bool.{Bool, true, false}
+use Rattle.std.specs.Bool.{MatchBool}
+use Rattle.std.specs.List.{AllWithin, HoldsAt, range_with_len}
+use Rattle.std.proofs.lemmas.List.FromFn.{length-range_with_len, get_or-range_with_len}
 use Prim.Native.Nat.{ℕ, zero, suc, ◌+◌, ◌-◌, ◌*◌, ◌/◌, ◌%◌, ◌^◌, ◌≤◌, ◌<◌}
 use mathlib.Core.List.{List}
 use lib.ListN.{length}
@@ -58,9 +62,6 @@ module _ (x : List ℕ) (count w k y : ℕ) (B : Below count (32 * w) k) (e : y 
 abbrev pub WordsClear : List ℕ → (count k : ℕ) → Type 0
 WordsClear x count k = (w : ℕ) → w < k → WordClear x count w
 
-pub words_none : (x : List ℕ) (count : ℕ) → WordsClear x count 0
-words_none x count w lt = absurd (omega arith)
-
 pub words_more : (x : List ℕ) (count k : ℕ) → WordsClear x count k → WordClear x count k → WordsClear x count (k + 1)
 words_more x count k f z w lt = go (ℕ_discrete w k)
   where
@@ -86,3 +87,11 @@ module _ (x : List ℕ) (count : ℕ) (e : count ≡ count_of x) where
       let q : (32 * w + j) % 32 ≡ j = omega arith in
       let h = unheard-bit x (32 * w + j) (S.clear (32 * w + j) (omega arith) (omega arith)) in
       rw (p, q) at h
+
+-- the first n heard words, asked one after another: all are clear, or one is not
+pub sound_told : (x : List ℕ) (r : Bool) (n : ℕ) → n ≡ 128 → length x ≡ 130 → count_of x ≤ 4096
+    → MatchBool r (AllWithin (WordClear x (count_of x)) (range_with_len 0 n) 0 (length (range_with_len 0 n))) ((k : ℕ) × (k < length (range_with_len 0 n)) × HoldsAt (λ w. ¬ WordClear x (count_of x) w) (range_with_len 0 n) k)
+    → Tells r (SoundInbox x)
+sound_told x true n e long small all = words_sound x (count_of x) refl long small n (omega arith) (λ w l. subst (WordClear x (count_of x)) (get_or-range_with_len 0 n w 0 l ∙ omega arith) (all w 0 (omega arith) (omega (arith, length-range_with_len 0 n))))
+sound_told x false n e long small (k, l, bad) = let h : k < n = omega (arith, length-range_with_len 0 n) in
+    λ S. bad 0 (subst (WordClear x (count_of x)) (sym (get_or-range_with_len 0 n k 0 h ∙ omega arith)) (sound_word x (count_of x) refl k (omega arith) S))

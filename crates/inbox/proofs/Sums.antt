@@ -7,7 +7,6 @@ use native.Mathlib.Omega.{arith}
 use lib.Count.{ones, ones-le, ones_cat}
 use Rattle.model.specs.Block.{word, Words}
 use Rattle.model.specs.Inbox.{count_of, heard_in, SoundInbox}
-use Rattle.model.proofs.link.Missing.{heard_most}
 use Rattle.inbox.specs.Heard.{WordClear}
 use Rattle.inbox.proofs.Highs.{no_high, sound_word}
 
@@ -22,7 +21,7 @@ sum_none x = record { within = omega arith; small = omega arith; sum = unfold he
 
 -- one pair more
 pub sum_more : {x : List ℕ} {n w low high : ℕ} → Sum x n w → w < 64 → low ≡ word x (2 + 2 * w) → high ≡ word x (3 + 2 * w) → low < 2 ^ 32 → high < 2 ^ 32
-    → Sum x (ones (low + 4294967296 * high) + n) (w + 1)
+    → Sum x (n + ones (low + 4294967296 * high)) (w + 1)
 unfolding heard_in
 sum_more {x} {n} {w} {low} {high} S h l g fits room =
     let both : ones (low + 4294967296 * high) ≡ ones high + ones low = ap ones (omega arith) ∙ ones_cat 32 high low fits in
@@ -51,15 +50,3 @@ module _ (x : List ℕ) (S : SoundInbox x) (W : Words x) where
   -- the sum is whole once all words below count are in it
   pub sum-all : {n w : ℕ} → Sum x n w → count_of x ≤ 64 * w → n ≡ heard_in x 128
   sum-all {n} {w} s le = s.sum ∙ none_behind (2 * w) (128 - 2 * w) (omega arith) (omega (arith, s.within)) ∙ ap (heard_in x) (omega (arith, s.within))
-
-  heard_more : (k d : ℕ) → heard_in x k ≤ heard_in x (k + d)
-  unfolding heard_in
-  heard_more k zero = omega (arith, ap (heard_in x) (add-zero k))
-  heard_more k (suc d) = rw (add-suc k d) (omega (arith, heard_more k d))
-
-  -- and once it is count, since no more is heard than that
-  pub sum_full : {n w : ℕ} → Sum x n w → n ≡ count_of x → n ≡ heard_in x 128
-  sum_full {n} {w} s e =
-      let rest = heard_more (2 * w) (128 - 2 * w) in
-      let all : heard_in x (2 * w + (128 - 2 * w)) ≡ heard_in x 128 = ap (heard_in x) (omega (arith, s.within)) in
-      omega (arith, s.sum, rest, all, heard_most x S W)

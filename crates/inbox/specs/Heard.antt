@@ -1,6 +1,7 @@
--- The heard words, one at a time.
-use Rattle.std.specs.Prelude.{◌≡◌, ℕ, ◌+◌, ◌*◌, ◌≤◌, ◌<◌, List}
+-- The heard words, one at a time, and how many lines are missing.
+use Rattle.std.specs.Prelude.{◌≡◌, ℕ, ◌+◌, ◌*◌, ◌≤◌, ◌<◌, List, Result, Ok, Err}
 use Rattle.model.specs.Block.{word, bit}
+use Rattle.answers.specs.declared.Refusal.{Refusal}
 
 -- heard word w has no bit at or above count
 unfoldable pub WordClear : List ℕ → ℕ → ℕ → Type 0
@@ -11,3 +12,8 @@ pub record Below (count at k : ℕ) : Type 0 where
   pub most : k ≤ 32
   pub from : (j : ℕ) → j < 32 → count ≤ at + j → k ≤ j
   pub to : (j : ℕ) → j < 32 → k ≤ j → count ≤ at + j
+
+-- how many are missing; 0 beside a refusal
+abbrev pub missing_of : Result ℕ Refusal → ℕ
+missing_of (Ok m) = m
+missing_of (Err r) = 0

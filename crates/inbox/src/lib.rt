@@ -1,4 +1,5 @@
 // The inbox: 130 words, batch, count and 128 heard words; bit b of heard word w is index 32w + b.
+// They stay a lent slice, as block and kiosk do: a type over it would need a twin over `&mut`, and a check to make either, for the one fact, `SoundInbox`, that the contracts share.
 #![tactic(auto)]
 
 ghost use Rattle.std.specs.Prelude.{◌≡◌, false, ◌+◌, ◌^◌, ◌<◌, ◌≤◌, length, replicate};
@@ -6,25 +7,10 @@ ghost use Rattle.model.specs.Inbox as model;
 ghost use Rattle.model.specs.Inbox.{SoundInbox};
 ghost use Rattle.model.specs.Tells.{Tells};
 ghost use Rattle.model.specs.Link.{CheckedInbox, Begin, Missing};
-ghost use Rattle.inbox.specs.Heard.{Below, WordClear};
+ghost use Rattle.answers.specs.Numbers.{code};
+ghost use Rattle.inbox.specs.Heard.{Below, WordClear, missing_of};
 
-const SHAPE: u32 = 1;
-
-const DAMAGED: u32 = 2;
-
-// A number the call gives back, and how many frames are missing.
-#[derive(Clone, Copy)]
-pub struct Reply {
-    pub number: u32,
-    pub missing: u32,
-}
-
-// In 64 bits, so that a shift by 32 is a shift as any other.
-fn wide(x: u32) -> usize
-    ensures { (result ≡ x) × (result < 2 ^ 32) }
-{
-    x as usize
-}
+use answers::Refusal;
 
 // Whether the inbox has 130 words.
 pub fn shape(x: &[u32]) -> bool
@@ -38,22 +24,16 @@ fn below(count: usize, at: usize) -> usize
     requires { at ≤ 4096 }
     ensures { Below count at result }
 {
-    if count <= at {
-        return 0;
-    }
-    if at + 32 <= count {
-        return 32;
-    }
-    count - at
+    count.saturating_sub(at).min(32)
 }
 
-// Whether heard word w has no bit at or above count: all its bits at once, by a shift.
+// Whether heard word w has no bit at or above count: all its bits at once, by a shift in 64 bits, where one by 32 is a shift as any other.
 fn word_clear(x: &[u32], count: usize, w: usize) -> bool
     requires { (length x.now ≡ 130) × (w < 128) }
     ensures { Tells result (WordClear x.now count w) }
 {
     let k = below(count, 32 * w);
-    wide(x[2 + w]) >> k == 0
+    x[2 + w] as usize >> k == 0
 }
 
 // Count at most 4,096, and no bit at or above count.
@@ -61,31 +41,21 @@ pub fn sound(x: &[u32]) -> bool
     requires { length x.now ≡ 130 }
     ensures { Tells result (SoundInbox x.now) }
 {
-    let count = wide(x[1]);
-    if 4096 < count {
-        return false;
-    }
-    let mut w = 0;
-    while w < 128 {
-        if !word_clear(x, count, w) {
-            return false;
-        }
-        w += 1;
-    }
-    true
+    let count = x[1] as usize;
+    count <= 4096 && (0..128).all(|w| word_clear(x, count, w))
 }
 
-// 0 if the inbox is sound, else SHAPE or DAMAGED.
-pub fn check(x: &[u32]) -> u32
-    ensures { CheckedInbox x.now result }
+// Shape if the inbox has not 130 words, Damaged if it is not sound; block and kiosk have a check each (`audit::check`).
+pub fn check(x: &[u32]) -> Result<(), Refusal>
+    ensures { CheckedInbox x.now (code result) }
 {
     if !shape(x) {
-        return SHAPE;
+        return Err(Refusal::Shape);
     }
     if !sound(x) {
-        return DAMAGED;
+        return Err(Refusal::Damaged);
     }
-    0
+    Ok(())
 }
 
 // Whether the bit of index is 1.
@@ -108,24 +78,21 @@ pub fn mark(x: &mut [u32], count: u32, index: u32)
     x[w] = bits;
 }
 
-// The bits heard, by the ones of the heard words, two words at a time. Words from count on have none, and once n is count no other has any.
-// That second end, which only the bits decide, also keeps the counting out of wide registers, whose masks would be constant data.
+// The bits heard, by the ones of the heard words, two words at a time. Words from count on have none.
+// The test is never met, as n is at most 64 w below count; but only the bits tell so, and it keeps the counting out of wide registers, whose masks would be constant data.
 fn heard_in(x: &[u32]) -> u32
     requires { SoundInbox x.now }
     ensures { result ≡ model.heard_in x.now 128 }
 {
     let count = x[1];
-    let most = wide(count);
     let mut n: u32 = 0;
-    let mut w: usize = 0;
-    while 64 * w < most {
+    for w in 0..(count as usize).div_ceil(64) {
         if n == count {
             return n;
         }
-        let low = wide(x[2 + 2 * w]);
-        let high = wide(x[3 + 2 * w]);
-        n = usize::count_ones(low + 4294967296 * high) + n;
-        w += 1;
+        let low = x[2 + 2 * w] as usize;
+        let high = x[3 + 2 * w] as usize;
+        n += (low + 4294967296 * high).count_ones();
     }
     n
 }
@@ -138,48 +105,26 @@ pub fn missing(x: &[u32]) -> u32
     x[1] - heard_in(x)
 }
 
-// Zeros everywhere.
-fn clear(x: &mut [u32])
-    ensures { x.new ≡ replicate (length x.old) 0 }
-{
-    let mut i: usize = 0;
-    while i < x.len() {
-        x[i] = 0;
-        i += 1;
-    }
-}
-
 // Begin: any 130 words will do, as all are written.
-pub fn begin(x: &mut [u32], batch: u32) -> u32
-    ensures { Begin x.old x.new batch result }
+pub fn begin(x: &mut [u32], batch: u32) -> Result<(), Refusal>
+    ensures { Begin x.old x.new batch (code result) }
 {
     if !shape(x) {
-        return SHAPE;
+        return Err(Refusal::Shape);
     }
-    clear(x);
+    x.fill(0);
     x[0] = batch;
-    0
+    Ok(())
 }
 
 // The missing question on its own: 4,294,967,295 while count is 0.
-pub fn question(x: &[u32]) -> Reply
-    ensures { Missing x.now result.number result.missing }
+pub fn question(x: &[u32]) -> Result<u32, Refusal>
+    ensures { Missing x.now (code result) (missing_of result) }
 {
-    let number = check(x);
-    if number != 0 {
-        return Reply {
-            number: number,
-            missing: 0,
-        };
-    }
+    check(x)?;
     if x[1] == 0 {
-        return Reply {
-            number: 0,
-            missing: 4294967295,
-        };
-    }
-    Reply {
-        number: 0,
-        missing: missing(x),
+        Ok(u32::MAX)
+    } else {
+        Ok(missing(x))
     }
 }

@@ -1,12 +1,10 @@
 -- A line from its reading to the verdict, and from the verdict to the call's contract.
 use mathlib.Core.Path.{◌≡◌, refl, ap, sym, subst, ◌∙◌}
-use mathlib.Core.Logic.{◌≢◌, ◌⊎◌, inr, ⊎_elim}
+use mathlib.Core.Logic.{◌≢◌, ◌⊎◌}
 use Prim.Native.Nat.{ℕ, ◌<◌}
 use mathlib.Core.Bool.{Bool, true, false}
 use mathlib.Core.List.{List}
-use lib.Dec.{eqb, ltb}
 use native.Mathlib.Omega.{arith}
-use native.Mathlib.Decide.{ℕ_discrete}
 use Rattle.model.specs.Frame as lines
 use Rattle.model.specs.Frame.{Reading, good, fault, read}
 use Rattle.model.specs.Inbox.{count_of, heard_at, SoundInbox, marked, missing}
@@ -14,34 +12,12 @@ use Rattle.model.specs.Numbers.{NO_ROOM}
 use Rattle.model.specs.Calls.{Check, fails, passes}
 use Rattle.model.specs.Link as link
 use Rattle.model.specs.Link.{Step, turned_away, accepted, PutsZero, Heeds, Judges}
-use Rattle.model.specs.Tells.{Tells}
-use Rattle.model.proofs.calls.Checks.{check_map, check_holds, check_next}
-use Rattle.model.proofs.maps.Tells.{tells_eqb, tells_ltb}
+use Rattle.model.proofs.calls.Checks.{check_map}
 use Rattle.model.proofs.link.Heard.{Markable}
 use Rattle.model.proofs.link.Lines.{legal_exactly, good_parse, parse_only}
 use Rattle.frame.specs.declared.Frame.{Frame}
-use Rattle.frame.specs.declared.Fault.{Fault}
 use Rattle.frame.specs.Fields.{fields_of}
-use Rattle.judge.specs.declared.Verdict.{Verdict}
-use Rattle.judge.specs.declared.Verdict.TheVariants.{Refused, Repeat, New}
-use Rattle.judge.specs.Verdicts.{Belongs, refused, repeat, new, said_of, Judgement, Fit}
-
--- a count that is known agrees where it is the same
-pub count_told : (x : List ℕ) (count : ℕ) → count_of x ≢ 0 → Tells (eqb (count_of x) count) ((count_of x ≡ 0) ⊎ (count_of x ≡ count))
-count_told x count ne = tells_eqb (count_of x) count inr (⊎_elim (λ e. absurd (ne e)) (λ e. e))
-
--- a put puts no zero where its value is above 0
-pub worth_told : (f : lines.Frame) → f.kind ≡ 1 → Tells (ltb 0 f.value) (¬ PutsZero f)
-worth_told f k = tells_ltb 0 f.value (λ h z. omega (arith, z.1)) (λ n. go n (ℕ_discrete f.value 0))
-  where
-    go : ¬ PutsZero f → Dec (f.value ≡ 0) → 0 < f.value
-    go n (yes e) = absurd (n (k, e))
-    go n (no e) = omega arith
-
--- the verdicts
-
-pub faulty : (x : List ℕ) (g : Fault) (r : Reading) → fault g.number g.place ≡ r → Judgement x (Refused g) r
-faulty x g r e = subst (Judgement x (Refused g)) e refl
+use Rattle.judge.specs.Verdicts.{Verdict, refused, repeat, new, said_of, Judgement, Fit}
 
 module _ (x line : List ℕ) (f : Frame) (e : good (fields_of f) ≡ read line) where
   -- it was parsed, so it is legal, and its index has a bit
@@ -49,24 +25,6 @@ module _ (x line : List ℕ) (f : Frame) (e : good (fields_of f) ≡ read line) 
   has_bit =
       let legal = (legal_exactly (fields_of f)).0 (parse_only line (fields_of f) ((good_parse line (fields_of f)).1 (sym e))).1 in
       omega (arith, legal.most, legal.below)
-
-  module _ (n : ℕ) (B : Belongs x f n) where
-    pub foreign : n ≢ 0 → Judgement x (Refused (record { number = n; place = 0 })) (read line)
-    foreign ne = subst (Judgement x (Refused (record { number = n; place = 0 }))) e (check_map B told (λ C. check_map C told (λ D. check_map D told (λ z. absurd (ne z)))))
-      where
-        told : {m : ℕ} → n ≡ m → refused n 0 ≡ refused m 0
-        told d = ap (λ i. refused i 0) d
-
-    heeded : (v : Verdict) → n ≡ 0 → Heeds (said_of v ≡ repeat) (said_of v ≡ new (fields_of f)) (heard_at x f.index) → Judgement x v (read line)
-    heeded v z H =
-        let C = check_next 7 B z in
-        subst (Judgement x v) e (passes (check_holds 7 B z) (passes (check_holds 8 C z) (passes (check_holds 12 (check_next 8 C z) z) H)))
-
-    pub told_again : n ≡ 0 → heard_at x f.index ≡ true → Judgement x Repeat (read line)
-    told_again z h = heeded Repeat z (subst (Heeds (repeat ≡ repeat) (repeat ≡ new (fields_of f))) (sym h) refl)
-
-    pub told_new : n ≡ 0 → heard_at x f.index ≡ false → Judgement x (New f) (read line)
-    told_new z h = heeded (New f) z (subst (Heeds (new (fields_of f) ≡ repeat) (new (fields_of f) ≡ new (fields_of f))) (sym h) refl)
 
 -- no two kinds of verdict are one
 refused_repeat : (n p : ℕ) → refused n p ≡ repeat → ⊥

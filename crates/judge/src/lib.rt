@@ -2,6 +2,7 @@
 #![tactic(auto)]
 
 ghost use Rattle.std.specs.Prelude.{◌≡◌, ◌⊎◌};
+ghost use Rattle.answers.specs.Numbers.{code};
 ghost use Rattle.model.specs.Inbox.{count_of, SoundInbox, marked};
 ghost use Rattle.model.specs.Inbox as model;
 ghost use Rattle.model.specs.Tells.{Tells};
@@ -10,30 +11,15 @@ ghost use Rattle.model.specs.Link.{PutsZero};
 ghost use Rattle.frame.specs.Fields.{fields_of};
 ghost use Rattle.judge.specs.Verdicts.{heard_of, Belongs, Judgement, Fit};
 
-use frame::{Fault, Frame, Parsed};
+use answers::{Fault, Refusal};
+use frame::Frame;
 use inbox::{heard, mark, missing};
 
-const BATCH: u32 = 8;
-
-const COUNT: u32 = 9;
-
-const ZERO: u32 = 13;
-
-// The call's number, 1 for a repeat, how many frames are missing, and the place of a bad digit; zeros on any other refusal.
+// What a line did that was not refused: whether it was a repeat, and how many frames are missing.
 #[derive(Clone, Copy)]
 pub struct Heard {
-    pub number: u32,
-    pub again: u32,
+    pub again: bool,
     pub missing: u32,
-    pub place: u32,
-}
-
-// What is to be done with a line: it is refused, it changes nothing, or its edit is to be done.
-#[derive(Clone, Copy)]
-pub enum Verdict {
-    Refused(Fault),
-    Repeat,
-    New(Frame),
 }
 
 // Whether the frame's count may be the batch's. A count of 0 is not known yet, so any will do.
@@ -41,83 +27,55 @@ fn counted(x: &[u32], count: u32) -> bool
     requires { SoundInbox x.now }
     ensures { Tells result ((count_of x.now ≡ 0) ⊎ (count_of x.now ≡ count)) }
 {
-    if x[1] == 0 {
-        return true;
-    }
-    x[1] == count
+    x[1] == 0 || x[1] == count
 }
 
-// Whether the frame puts no zero: 0 minutes would later read like a release.
+// Whether the frame puts no zero: 0 minutes would later read like a release. The kind is a number, as `Frame` says.
 fn worth(f: Frame) -> bool
     ensures { Tells result (¬ PutsZero (fields_of f)) }
 {
-    if f.kind != 1 {
-        return true;
-    }
-    0 < f.value
+    f.kind != 1 || 0 < f.value
 }
 
 // Whether the frame is of the batch that is heard, and may be taken: a repeat is asked no less.
-fn belongs(x: &[u32], f: Frame) -> u32
+fn belongs(x: &[u32], f: Frame) -> Result<(), Refusal>
     requires { SoundInbox x.now }
-    ensures { Belongs x.now f result }
+    ensures { Belongs x.now f (code result) }
 {
     if f.batch != x[0] {
-        return BATCH;
+        return Err(Refusal::Batch);
     }
     if !counted(x, f.count) {
-        return COUNT;
+        return Err(Refusal::Count);
     }
     if !worth(f) {
-        return ZERO;
+        return Err(Refusal::Zero);
     }
-    0
+    Ok(())
 }
 
-// All that is asked of a line before its edit.
-pub fn judge(x: &[u32], line: &[u8]) -> Verdict
+// All that is asked of a line before its edit: its frame where the edit is to be done, or None where the line is a repeat.
+pub fn judge(x: &[u32], line: &[u8]) -> Result<Option<Frame>, Fault>
     requires { SoundInbox x.now }
     ensures { Judgement x.now result (lines.read line.now) }
 {
-    let f = match frame::parse(line) {
-        Parsed::Good(f) => f,
-        Parsed::Bad(fault) => return Verdict::Refused(fault),
-    };
-    let n = belongs(x, f);
-    if n != 0 {
-        return Verdict::Refused(Fault {
-            number: n,
-            place: 0,
-        });
-    }
+    let f = frame::parse(line)?;
+    belongs(x, f)?;
     if heard(x, f.index) {
-        return Verdict::Repeat;
-    }
-    Verdict::New(f)
-}
-
-// A refusal returns its number, and the place of a bad digit.
-pub fn refused(number: u32, place: u32) -> Heard
-    ensures { heard_of result ≡ record { number = number; again = 0; missing = 0; place = place } }
-{
-    Heard {
-        number: number,
-        again: 0,
-        missing: 0,
-        place: place,
+        Ok(None)
+    } else {
+        Ok(Some(f))
     }
 }
 
 // The answer to a repeat.
 pub fn repeated(x: &[u32]) -> Heard
     requires { SoundInbox x.now }
-    ensures { heard_of result ≡ record { number = 0; again = 1; missing = model.missing x.now; place = 0 } }
+    ensures { heard_of (Ok result) ≡ record { number = 0; again = 1; missing = model.missing x.now; place = 0 } }
 {
     Heard {
-        number: 0,
-        again: 1,
+        again: true,
         missing: missing(x),
-        place: 0,
     }
 }
 
@@ -125,13 +83,11 @@ pub fn repeated(x: &[u32]) -> Heard
 pub fn accept(x: &mut [u32], f: Frame) -> Heard
     requires { Fit x.old f.count f.index }
     ensures x_after { x.new ≡ marked x.old f.count f.index }
-    ensures result_value { heard_of result ≡ record { number = 0; again = 0; missing = model.missing (marked x.old f.count f.index); place = 0 } }
+    ensures result_value { heard_of (Ok result) ≡ record { number = 0; again = 0; missing = model.missing (marked x.old f.count f.index); place = 0 } }
 {
     mark(x, f.count, f.index);
     Heard {
-        number: 0,
-        again: 0,
+        again: false,
         missing: missing(x),
-        place: 0,
     }
 }

@@ -14,8 +14,10 @@ use Rattle.model.specs.Frame as model
 use Rattle.model.specs.Frame.{◌>>=◌, fields, Reading, good, fault}
 use Rattle.model.specs.Request.{cutting, six_fields, all_fields}
 use Rattle.model.proofs.link.Lines.{bind_some}
-use Rattle.frame.specs.declared.Parsed.{Parsed}
-use Rattle.frame.specs.declared.Parsed.TheVariants.{Good, Bad}
+use Rattle.std.specs.Prelude as code
+use Rattle.std.specs.Result.{result_ok}
+use Rattle.answers.specs.declared.Fault.{Fault}
+use Rattle.frame.specs.declared.Frame.{Frame}
 use Rattle.frame.specs.Fields.{parsed, fields_read}
 use Rattle.requests.specs.Reading.{six_of, holds}
 
@@ -32,9 +34,9 @@ abbrev frame_of : Reading → Option model.Frame
 frame_of (good f) = some f
 frame_of (fault n p) = none
 
-six_frame : (r : Parsed) → six_of r ≡ frame_of (parsed r)
-six_frame (Good f) = refl
-six_frame (Bad f) = refl
+six_frame : (r : code.Result Frame Fault) → six_of (result_ok r) ≡ frame_of (parsed r)
+six_frame (code.Ok f) = refl
+six_frame (code.Err f) = refl
 
 read_frame : (cs : List ℕ) → frame_of (fields_read cs) ≡ fields cs
 unfolding fields_read
@@ -62,7 +64,7 @@ module _ (cs : List ℕ) (i : ℕ) (h : 35 * i + 35 ≤ length cs) where
 
   -- and with it those that frame reads
   pub piece_said : (at : ℕ) → at ≡ 35 * i → get_or cs (at + 34) 0 ≡ 10
-      → (r : Parsed) (k : ℕ) → parsed r ≡ fields_read (take k (drop at cs)) → k ≡ 35 → six_of r ≡ six_fields (piece cs i)
+      → (r : code.Result Frame Fault) (k : ℕ) → parsed r ≡ fields_read (take k (drop at cs)) → k ≡ 35 → six_of (result_ok r) ≡ six_fields (piece cs i)
   unfolding six_fields
   piece_said at a e r k q w =
       let newline = eq-eqb (get_or cs (35 * i + 34) 0) 10 (ap (λ k. get_or cs (k + 34) 0) (sym a) ∙ e) in

@@ -1,8 +1,8 @@
 -- The runs from an index on: none where all are heard, else the first, and those behind it.
-use mathlib.Core.Path.{◌≡◌, refl, ap, sym, subst, ◌∙◌}
+use mathlib.Core.Path.{◌≡◌, refl, ap, sym, ◌∙◌}
 use mathlib.Core.Logic.{◌⊎◌, inl, inr, ⊎_elim, ◌≢◌}
 use Prim.Native.Nat.{ℕ, zero, suc, ◌+◌, ◌-◌, ◌≤◌, ◌<◌}
-use mathlib.Core.Bool.{Bool, true, false, not, beq, true≢false}
+use mathlib.Core.Bool.{Bool, true, false, true≢false}
 use mathlib.Core.List.{List, [], ◌∷◌}
 use lib.ListN.{length, drop, length-drop, drop_of_length-le}
 use lib.Seq.{drop-drop}
@@ -11,46 +11,13 @@ use native.Mathlib.Decide.{ℕ_discrete}
 use Rattle.model.specs.Inbox.{count_of, heard_at}
 use Rattle.model.specs.Request.{unheard}
 use Rattle.model.proofs.requests.Runs.{unheard_run}
-use Rattle.requests.specs.declared.runs.Found.{Found}
-use Rattle.requests.specs.declared.runs.Found.TheVariants as found
-use Rattle.requests.specs.Runs.{Reaches, Finds, runs_from}
-
--- two answers that differ, or do not
-pub other_is : (r is : Bool) → not (beq r is) ≡ true → r ≡ not is
-other_is true true e = absurd (true≢false (sym e))
-other_is true false e = refl
-other_is false true e = refl
-other_is false false e = absurd (true≢false (sym e))
-
-pub same_is : (r is : Bool) → not (beq r is) ≡ false → r ≡ is
-same_is true true e = refl
-same_is true false e = absurd (true≢false e)
-same_is false true e = absurd (true≢false e)
-same_is false false e = refl
+use Rattle.requests.specs.Runs.{Reaches, runs_from}
 
 -- up to i the search has met none
 pub record Passed (x : List ℕ) (from end : ℕ) (is : Bool) (i : ℕ) : Type 0 where
   pub low : from ≤ i
   pub high : i ≤ end
   pub same : (j : ℕ) → from ≤ j → j < i → heard_at x j ≡ is
-
-module _ {x : List ℕ} {from end : ℕ} {is : Bool} where
-  pub passed_none : from ≤ end → Passed x from end is from
-  passed_none h = record { low = omega arith; high = h; same = λ j l m. absurd (omega (arith, l, m)) }
-
-  module _ {i : ℕ} (P : Passed x from end is i) where
-    pub passed_more : i < end → heard_at x i ≡ is → Passed x from end is (i + 1)
-    passed_more h e = record { low = omega (arith, P.low); high = omega (arith, h); same = λ j l m. go (ℕ_discrete j i) l m }
-      where
-        go : {j : ℕ} → Dec (j ≡ i) → from ≤ j → j < i + 1 → heard_at x j ≡ is
-        go (yes q) l m = ap (heard_at x) q ∙ e
-        go {j} (no q) l m = P.same j l (omega (arith, m, q))
-
-    pub passed_found : heard_at x i ≡ not is → Reaches x from end is i
-    passed_found e = record { low = P.low; high = P.high; same = P.same; other = inr e }
-
-    pub passed_all : end ≤ i → Reaches x from end is end
-    passed_all h = record { low = omega (arith, P.low, P.high); high = omega arith; same = λ j l m. P.same j l (omega (arith, h, m)); other = inl refl }
 
 -- indexes that are heard belong to no run
 unheard-over : (heard : ℕ → Bool) (k i n : ℕ) → ((j : ℕ) → i ≤ j → j < i + k → heard j ≡ true) → unheard heard i (k + n) ≡ unheard heard (i + k) n
@@ -113,33 +80,14 @@ pub record Next (x : List ℕ) (i b : ℕ) : Type 0 where
   pub low : i ≤ b
   pub high : b < count_of x
 
-module _ (x : List ℕ) (i : ℕ) {r : Found} where
-  pub found_none : r ≡ found.None → Finds x i r → runs_from x i ≡ []
-  found_none e F = subst (λ (q : Found). Finds x i q) e F
-
-  pub found_run : {a b : ℕ} → r ≡ found.Run a b → Finds x i r → Next x i b
-  found_run {a} {b} e F =
-      let next : b + 1 ≡ suc b = omega arith in
-      let f : Finds x i (found.Run a b) = subst (λ (q : Found). Finds x i q) e F in
-      record { first = a; runs = rw next f.0; low = f.1; high = f.2 }
-
--- no index is left
-pub runs_end : (x : List ℕ) (i : ℕ) → count_of x ≤ i → runs_from x i ≡ []
-unfolding unheard
-runs_end x i h = let z : count_of x - i ≡ 0 = omega arith in rw z refl
+pub found : (x : List ℕ) (i a b : ℕ) → (runs_from x i ≡ record { first = a; last = b } ∷ runs_from x (suc b)) × (i ≤ b) × (b < count_of x) → Next x i b
+found x i a b F = let next : b + 1 ≡ suc b = omega arith in record { first = a; runs = rw next F.0; low = F.1; high = F.2 }
 
 -- n runs are passed, those from index i on are left
 pub record Counted (x : List ℕ) (i n : ℕ) : Type 0 where
   pub within : i ≤ count_of x
   pub few : n ≤ i
   pub same : n + length (runs_from x i) ≡ length (runs_from x 0)
-
-module _ {x : List ℕ} {i n : ℕ} (C : Counted x i n) where
-  pub counted_more : {b : ℕ} → Next x i b → Counted x (b + 1) (n + 1)
-  counted_more N = record { within = omega (arith, N.high); few = omega (arith, C.few, N.low); same = omega (arith, C.same, ap length N.runs) }
-
-  pub counted-all : runs_from x i ≡ [] → n ≡ length (runs_from x 0)
-  counted-all e = omega (arith, C.same, ap length e)
 
 -- those from index i on are those behind the first k
 pub record Behind (x : List ℕ) (i k : ℕ) : Type 0 where
@@ -155,6 +103,3 @@ module _ {x : List ℕ} {i k : ℕ} (B : Behind x i k) where
   behind_none {n} h e =
       let few : length (runs_from x 0) ≤ n = omega (arith, length-drop k (runs_from x 0), ap length (sym B.same ∙ e)) in
       (e ∙ sym (drop_of_length-le (runs_from x 0) few), B.within)
-
-  pub behind_all : {n : ℕ} → k ≤ n → n ≤ k → (runs_from x i ≡ drop n (runs_from x 0)) × (i ≤ count_of x)
-  behind_all {n} h l = let e : n ≡ k = omega arith in rw e (B.same, B.within)

@@ -1,16 +1,16 @@
 -- What the code reads of a request, and the indexes that it chooses.
 use Rattle.std.specs.Prelude.{◌≡◌, ℕ, zero, suc, ◌+◌, ◌/◌, Bool, true, false, List, [], ◌∷◌, length, take}
+use Rattle.std.specs.Prelude as code
 use Rattle.std.proofs.Math.Option.{Option, none, some}
 use Rattle.model.specs.Frame as model
 use Rattle.model.specs.Request.{asked}
-use Rattle.frame.specs.declared.Parsed.{Parsed}
-use Rattle.frame.specs.declared.Parsed.TheVariants.{Good, Bad}
+use Rattle.frame.specs.declared.Frame.{Frame}
 use Rattle.frame.specs.Fields.{fields_of}
 
--- the six fields, whatever is wrong with a line that has none
-abbrev pub six_of : Parsed → Option model.Frame
-six_of (Good f) = some (fields_of f)
-six_of (Bad f) = none
+-- the six fields, if the line has them
+abbrev pub six_of : code.Option Frame → Option model.Frame
+six_of (code.Some f) = some (fields_of f)
+six_of code.None = none
 
 -- the test holds of the lines, if all are lines
 abbrev pub holds : (List model.Frame → Bool) → Option (List model.Frame) → Bool

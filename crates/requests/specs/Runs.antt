@@ -1,10 +1,9 @@
 -- The runs of an inbox as the loops find them, one after another.
-use Rattle.std.specs.Prelude.{◌≡◌, ◌⊎◌, ℕ, suc, ◌-◌, ◌≤◌, ◌<◌, Bool, true, false, not, List, [], ◌∷◌, eqb}
+use Rattle.std.specs.Prelude.{◌≡◌, ◌⊎◌, ℕ, suc, ◌-◌, ◌≤◌, ◌<◌, Bool, true, false, not, Option, Some, None, List, [], ◌∷◌, eqb}
 use Rattle.model.specs.Frame.{Frame}
 use Rattle.model.specs.Inbox.{count_of, heard_at}
 use Rattle.model.specs.Request.{Run, run_line, complete_line, unheard}
-use Rattle.requests.specs.declared.runs.Found.{Found}
-use Rattle.requests.specs.declared.runs.Found.TheVariants as found
+use Rattle.requests.specs.declared.runs.Run as code
 
 -- the indexes before r are as `is` says, heard or not, and r is the first that is otherwise, or the end
 pub record Reaches (x : List ℕ) (from end : ℕ) (is : Bool) (r : ℕ) : Type 0 where
@@ -17,10 +16,13 @@ pub record Reaches (x : List ℕ) (from end : ℕ) (is : Bool) (r : ℕ) : Type 
 abbrev pub runs_from : List ℕ → ℕ → List Run
 runs_from x i = unheard (heard_at x) i (count_of x - i)
 
+abbrev pub run_of : code.Run → Run
+run_of r = record { first = r.first; last = r.last }
+
 -- the first of them, if there is one
-abbrev pub Finds : (x : List ℕ) (i : ℕ) → Found → Type 0
-Finds x i (found.Run a b) = (runs_from x i ≡ record { first = a; last = b } ∷ runs_from x (suc b)) × (i ≤ b) × (b < count_of x)
-Finds x i found.None = runs_from x i ≡ []
+abbrev pub Finds : (x : List ℕ) (i : ℕ) → Option code.Run → Type 0
+Finds x i (Some r) = (runs_from x i ≡ run_of r ∷ runs_from x (suc r.last)) × (i ≤ r.last) × (r.last < count_of x)
+Finds x i None = runs_from x i ≡ []
 
 -- the line of an inbox without runs
 unfoldable pub alone_of : (batch count : ℕ) → Frame

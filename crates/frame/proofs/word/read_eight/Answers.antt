@@ -5,10 +5,10 @@ use Rattle.frame.proofs.word.read_eight.Goals as goal
 
 pub returns-then-texts-x : goal.returns-then-texts-x
 returns-then-texts-x c =
-    says_none c.args.line.now c.args.at c.requires (λ i. omega (arith, c.shared_slice_known-1.given i)) c.bytes_at-x.ensures
-    c.values-n.ensures.0 c.texts.ensures c.if-texts-x.true
+    says_eight c.args.line.now c.args.at c.requires (λ i. omega (arith, c.type_inv.line i)) c.bytes_at-x.ensures
+    c.values-n.ensures.0 c.texts.ensures c.if-texts-x.true c.packed.ensures
 
-pub returns : goal.returns
-returns c =
-    says_eight c.args.line.now c.args.at c.requires (λ i. omega (arith, c.shared_slice_known-1.given i)) c.bytes_at-x.ensures
-    c.values-n.ensures.0 c.texts.ensures c.if-texts-x.false c.packed.ensures
+pub returns-else-texts-x : goal.returns-else-texts-x
+returns-else-texts-x c =
+    says_none c.args.line.now c.args.at c.requires (λ i. omega (arith, c.type_inv.line i)) c.bytes_at-x.ensures
+    c.values-n.ensures.0 c.texts.ensures c.if-texts-x.false

@@ -1,59 +1,39 @@
 -- Each turn chooses what one line asks for, and what is left to choose is asked for by the lines behind it.
 use native.Mathlib.Omega.{arith}
-use mathlib.Core.Path.{◌∙◌}
+use mathlib.Core.Path.{sym, ◌∙◌}
 use Rattle.frame.specs.Fields.{fields_of}
 use Rattle.requests.proofs.Cutting.{Read}
-use Rattle.requests.proofs.Judging.{six_good, six_none}
 use Rattle.requests.proofs.Choosing.{chosen_none, chosen_bad, chosen_end, chosen_complete, chosen_first, chosen_last, chosen_run}
 use Rattle.requests.proofs.reading.choose.Goals as goal
-use Rattle.requests.proofs.reading.choose.Goals.{In-Good, then-f-ne-COMPLETE, else-f-ne-COMPLETE}
+use Rattle.requests.proofs.reading.choose.Goals.{In-Some, then-f, else-f}
 
-read : (c : In-Good)
-    → Read c.args.n c.loop-i.i c.args.request.now (fields_of c.in-Good.f)
-read c = record { more = c.loop-i-test.true; line = six_good c.line_at.ensures c.in-Good.is }
+read : (c : In-Some) → Read c.args.n c.loop-i.i c.args.request.now (fields_of c.in-Some.f)
+read c = record { more = c.loop-i-test.true; line = sym c.in-Some.ensures }
 
 pub loop-i-init : goal.loop-i-init
-loop-i-init c = (chosen_none _ _ _ _ c.requires.3, omega arith, c.requires.2)
-
-pub line_at-requires : goal.line_at-requires
-line_at-requires c = omega (arith, c.loop-i-test.true, c.requires.0)
+loop-i-init c = (chosen_none _ _ _ _ c.requires.3, c.requires.2)
 
 pub returns-in_default : goal.returns-in_default
-returns-in_default c =
-    absurd (chosen_bad c.loop-i.invariant.0 c.loop-i-test.true (six_none c.line_at.ensures c.in_default.is))
+returns-in_default c = absurd (chosen_bad c.loop-i.invariant.0 c.loop-i-test.true (sym c.in_default.ensures))
 
-pub last_of-requires : goal.last_of-requires
-last_of-requires c = tt
+pub returns : goal.returns
+returns c = chosen_end c.loop-i.invariant.0 c.loop-i-test.false c.loop-i.invariant.1
 
 pub overflow_add-last_of : goal.overflow_add-last_of
-overflow_add-last_of c =
-    omega (arith, c.last_of.ensures, chosen_last c.loop-i.invariant.0 (read (goal.at.overflow_add-last_of c).In-Good) c.if-f-ne-COMPLETE.true)
-
-pub smaller-requires : goal.smaller-requires
-smaller-requires c = tt
+overflow_add-last_of c = omega (arith, c.last_of.ensures, chosen_last c.loop-i.invariant.0 (read (goal.at.overflow_add-last_of c).In-Some) c.if-f.true)
 
 pub choose_run-k-requires : goal.choose_run-k-requires
 choose_run-k-requires c =
     let I = c.loop-i.invariant in
-    (chosen_first I.0 (read (goal.at.choose_run-k-requires c).In-Good) c.if-f-ne-COMPLETE.true, omega (arith, c.smaller.ensures, c.requires.1, I.2), I.2)
-
-pub overflow_add-i : goal.overflow_add-i
-overflow_add-i c = omega (arith, c.loop-i-test.true)
-
-pub loop-i-smaller : goal.loop-i-smaller
-loop-i-smaller c = omega (arith, c.loop-i-test.true)
+    (chosen_first I.0 (read (goal.at.choose_run-k-requires c).In-Some) c.if-f.true, omega (arith, c.min.ensures, c.requires.1, I.1), I.1)
 
 pub loop-i-preserved : goal.loop-i-preserved
 loop-i-preserved c =
     let I = c.loop-i.invariant in
-    let R = read (goal.at.loop-i-preserved c).In-Good in (
-      elim c.if-f-ne-COMPLETE.branch [
-        | then-f-ne-COMPLETE w ↦ rw (w.k-is, w.chosen-is) (chosen_run I.0 R w.if-f-ne-COMPLETE.true w.last_of.ensures w.smaller.ensures w.choose_run-k.ensures)
-        | else-f-ne-COMPLETE w ↦ rw (w.k-is, w.chosen-is) (chosen_complete I.0 R w.if-f-ne-COMPLETE.false)
+    let R = read (goal.at.loop-i-preserved c).In-Some in (
+      elim c.if-f.branch [
+        | then-f w ↦ rw (w.k-is, w.chosen-is) (chosen_run I.0 R w.if-f.true w.last_of.ensures w.min.ensures w.choose_run-k.ensures)
+        | else-f w ↦ rw (w.k-is, w.chosen-is) (chosen_complete I.0 R w.if-f.false)
       ],
-      omega (arith, c.loop-i-test.true),
-      c.if-f-ne-COMPLETE.auto.chosen ∙ I.2,
+      c.if-f.auto.chosen ∙ I.1,
     )
-
-pub returns : goal.returns
-returns c = chosen_end c.loop-i.invariant.0 c.loop-i-test.false c.loop-i.invariant.2

@@ -12,4 +12,4 @@ pub returns : goal.returns
 returns c =
     let i = c.args.i in
     let w : 35 * i + 35 - 35 * i ≡ 35 = omega arith in
-    piece_said _ i c.requires _ refl c.if-request-at-ne10.false c.fields.result (35 * i + 35 - 35 * i) c.fields.ensures w
+    rw c.ok.ensures.value (piece_said _ i c.requires _ refl c.if-request-at-ne10.false c.fields.result (35 * i + 35 - 35 * i) c.fields.ensures w)

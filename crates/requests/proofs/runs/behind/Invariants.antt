@@ -1,10 +1,6 @@
-use Prim.Native.Nat.{◌-◌, ◌≤◌}
 use Rattle.requests.proofs.Finding.{Behind}
 use Rattle.requests.proofs.runs.behind.Given as goal
 
 -- Each turn passes one run; where none is left there is none behind more of them either.
 abbrev pub invariant-loop-k : goal.invariant-loop-k
-invariant-loop-k l = Behind l.x l.i l.k × (l.k ≤ l.n)
-
-abbrev pub decreases-loop-k : goal.decreases-loop-k
-decreases-loop-k l = l.n - l.k
+invariant-loop-k l = Behind l.x l.i l._k
