@@ -12,7 +12,7 @@ use Rattle.model.specs.Numbers.{ZERO, EDIT}
 use Rattle.model.specs.Calls.{fails, passes, Admitted, Ending}
 use Rattle.model.specs.Batch.{Record, Legal, NoZero, batch_rule, Batched, Batch, records_from, BatchWords}
 use Rattle.model.proofs.calls.Checks.{check_map}
-use Rattle.table.proofs.Admitting.{Admission, two_known}
+use Rattle.table.proofs.Admitting.{Admission}
 use Rattle.batch.specs.declared.records.Edit.{Edit}
 use Rattle.batch.specs.Words.{records_of, flat, no_words}
 use Rattle.batch.proofs.Words.{words-cut, flat-read, many_records, many_edits}
@@ -22,17 +22,17 @@ pub not_admitted : {b : List ℕ} {n : ℕ} (dst src : ℕ) {legal : Type 0} (es
     → Batched b b dst src legal es n
 not_admitted dst src es A ne = check_map A (λ e. (e, refl)) (λ A. check_map A (λ e. (e, refl)) (λ A. check_map A (λ e. (e, refl)) (λ e. absurd (ne e))))
 
-module _ {b : List ℕ} {dst src : ℕ} (A : Admission b dst src src) {legal : Type 0} (es : List Record) where
-  pub not-legal : (legal → ⊥) → Batched b b dst src legal es EDIT
-  not-legal f = passes A.sound.shaped (passes A.sound (passes (two_known A.first A.second) (fails f (refl, refl))))
+module _ {b : List ℕ} {dst src : ℕ} (A : Admission b (dst ∷ src ∷ [])) {legal : Type 0} (es : List Record) where
+  pub not_legal : (legal → ⊥) → Batched b b dst src legal es EDIT
+  not_legal f = passes A.sound.shaped (passes A.sound (passes A.versions (fails f (refl, refl))))
 
   module _ (l : legal) where
     pub puts_zero : (NoZero es → ⊥) → Batched b b dst src legal es ZERO
-    puts_zero f = passes A.sound.shaped (passes A.sound (passes (two_known A.first A.second) (passes l (fails f (refl, refl)))))
+    puts_zero f = passes A.sound.shaped (passes A.sound (passes A.versions (passes l (fails f (refl, refl)))))
 
     -- what is left is the end of the edit
     pub ended : {after : List ℕ} {n : ℕ} → NoZero es → Ending b after dst (batch_rule es (version (heap b) src)) n → Batched b after dst src legal es n
-    ended z E = passes A.sound.shaped (passes A.sound (passes (two_known A.first A.second) (passes l (passes z E))))
+    ended z E = passes A.sound.shaped (passes A.sound (passes A.versions (passes l (passes z E))))
 
 -- records that are asked for in other words
 legal_as : {b after : List ℕ} {n : ℕ} (dst src : ℕ) {P Q : Type 0} (es : List Record) → (P → Q) → (Q → P) → Batched b after dst src P es n

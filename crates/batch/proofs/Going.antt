@@ -4,6 +4,7 @@ use Prim.Native.Nat.{ℕ, ◌+◌, ◌-◌, ◌*◌, ◌≤◌, ◌<◌}
 use mathlib.Core.List.{List, [], ◌∷◌}
 use lib.ListN.{length, get_or}
 use native.Mathlib.Omega.{arith}
+use Rattle.std.specs.Prelude.{Option, Some, None}
 use Rattle.model.specs.Tree.{Tree}
 use Rattle.model.specs.Supply.{Make}
 use Rattle.model.specs.Rules.{edit_by}
@@ -14,8 +15,6 @@ use Rattle.model.specs.Batch.{batch_rule, records_from}
 use Rattle.model.proofs.rules.Sizes.{edit_by-size}
 use Rattle.model.proofs.running.Growing.{came_holding}
 use Rattle.model.proofs.calls.Batches.{batch_onward}
-use Rattle.block.specs.declared.Made.{Made}
-use Rattle.block.specs.declared.Made.TheVariants.{At, Full}
 use Rattle.block.specs.Outcome.{Outcome}
 use Rattle.block.proofs.Outcomes.{out_bind, out_stop, out_done}
 use Rattle.block.proofs.Levels.{out_most}
@@ -28,7 +27,7 @@ pub record Going (a b : List ℕ) (start x : ℕ) (ws : List ℕ) (n i : ℕ) : 
   pub holds : Holding b (x ∷ [])
   pub named : Named (heap b) x
   pub small : size_at (heap b) x ≤ 4096 + i
-  pub rest : (e : List ℕ) (q : Made) → Outcome b e (x ∷ []) q (batch_rule (records_from ws i (n - i)) (tree (heap b) x))
+  pub rest : (e : List ℕ) (q : Option ℕ) → Outcome b e (x ∷ []) q (batch_rule (records_from ws i (n - i)) (tree (heap b) x))
       → Outcome a e (start ∷ []) q (batch_rule (records_from ws 0 n) (tree (heap a) start))
 
 pub going_start : {a : List ℕ} {start : ℕ} (ws : List ℕ) (n : ℕ) → Holding a (start ∷ []) → Named (heap a) start
@@ -43,17 +42,17 @@ module _ {a b : List ℕ} {start x : ℕ} {ws : List ℕ} {n i : ℕ} (G : Going
   abbrev later : Tree → Make Tree
   later = batch_rule (records_from ws (i + 1) (n - (i + 1)))
 
-  onward : {e : List ℕ} {q : Made} → i < n → Outcome b e (x ∷ []) q (λ s. let (t, s') = edit_at ws i (tree (heap b) x) s in later t s')
+  onward : {e : List ℕ} {q : Option ℕ} → i < n → Outcome b e (x ∷ []) q (λ s. let (t, s') = edit_at ws i (tree (heap b) x) s in later t s')
       → Outcome a e (start ∷ []) q (batch_rule (records_from ws 0 n) (tree (heap a) start))
   unfolding batch_rule
   onward {e} {q} lt O = G.rest e q (rw (records_step ws i n lt, batch_rule) O)
 
-  pub going_stop : {c : List ℕ} → i < n → Outcome b c (x ∷ []) Full (edit_at ws i (tree (heap b) x))
-      → Outcome a c (start ∷ []) Full (batch_rule (records_from ws 0 n) (tree (heap a) start))
+  pub going_stop : {c : List ℕ} → i < n → Outcome b c (x ∷ []) None (edit_at ws i (tree (heap b) x))
+      → Outcome a c (start ∷ []) None (batch_rule (records_from ws 0 n) (tree (heap a) start))
   unfolding held
   going_stop {c} lt O = onward lt (out_stop b c (edit_at ws i (tree (heap b) x)) later (λ m j. omega arith) O (batch_onward (records_from ws (i + 1) (n - (i + 1)))))
 
-  pub going_next : {c : List ℕ} {y : ℕ} → i < n → length c ≡ length b → Outcome b c (x ∷ []) (At y) (edit_at ws i (tree (heap b) x))
+  pub going_next : {c : List ℕ} {y : ℕ} → i < n → length c ≡ length b → Outcome b c (x ∷ []) (Some y) (edit_at ws i (tree (heap b) x))
       → Going a c start y ws n (i + 1)
   unfolding held
   going_next {c} {y} lt l O = record {
@@ -65,6 +64,6 @@ module _ {a b : List ℕ} {start x : ℕ} {ws : List ℕ} {n i : ℕ} (G : Going
     rest = λ e q P. onward lt (out_bind b c e [] y q (edit_at ws i (tree (heap b) x)) later (λ m j. omega arith) (λ m j. omega arith) O P);
   }
 
-  pub going_end : n ≤ i → Outcome a b (start ∷ []) (At x) (batch_rule (records_from ws 0 n) (tree (heap a) start))
+  pub going_end : n ≤ i → Outcome a b (start ∷ []) (Some x) (batch_rule (records_from ws 0 n) (tree (heap a) start))
   unfolding batch_rule held
-  going_end le = G.rest b (At x) (rw (records_end ws i n le, batch_rule) (out_done b x (λ m j. omega arith) G.holds.running G.named))
+  going_end le = G.rest b (Some x) (rw (records_end ws i n le, batch_rule) (out_done b x (λ m j. omega arith) G.holds.running G.named))

@@ -4,6 +4,7 @@
 pub mod records;
 
 ghost use Rattle.std.specs.Prelude.{◌*◌, ◌≤◌, [], ◌∷◌, length};
+ghost use Rattle.answers.specs.Numbers.{code};
 ghost use Rattle.model.specs.Tells.{Tells};
 ghost use Rattle.model.specs.Heap.{Named, size_at, tree};
 ghost use Rattle.model.specs.Block.{heap};
@@ -13,43 +14,28 @@ ghost use Rattle.block.specs.Outcome.{Outcome};
 ghost use Rattle.block.specs.Low.{Low};
 ghost use Rattle.batch.specs.Words.{Whole};
 
+use answers::Refusal;
 use block::ends::settle;
-use block::{Made, makes_from, root};
+use block::{makes_from, root};
 use table::checks::admit;
-
-const ZERO: u32 = 13;
-
-const EDIT: u32 = 16;
 
 // Whether the words are whole records, 512 at the most.
 fn whole(words: &[u32]) -> bool
     ensures { Tells result (Whole words.now) }
 {
-    if words.len() % 3 != 0 {
-        return false;
-    }
-    if 1536 < words.len() {
-        return false;
-    }
-    true
+    words.len() % 3 == 0 && words.len() <= 1536
 }
 
-// Whether each of n records puts or removes.
+// Whether each of n records puts or removes. Records are words that the host lends, so a kind is a number here; their number goes beside them, as contracts read the first n (`records_from`).
 fn known(words: &[u32], n: usize) -> bool
     requires { (n ≤ 512) × (3 * n ≤ length words.now) }
     ensures { Tells result (Legal (records_from words.now 0 n)) }
 {
-    let mut i = 0;
-    while i < n {
-        let at = 3 * i;
-        let kind = words[at];
-        if kind == 0 {
+    for i in 0..n {
+        let kind = words[3 * i];
+        if kind == 0 || 2 < kind {
             return false;
         }
-        if 2 < kind {
-            return false;
-        }
-        i += 1;
     }
     true
 }
@@ -59,57 +45,38 @@ fn no_zero(words: &[u32], n: usize) -> bool
     requires { (n ≤ 512) × (3 * n ≤ length words.now) }
     ensures { Tells result (NoZero (records_from words.now 0 n)) }
 {
-    let mut i = 0;
-    while i < n {
-        let at = 3 * i;
-        if words[at] == 1 {
-            if words[at + 2] == 0 {
-                return false;
-            }
+    for i in 0..n {
+        if words[3 * i] == 1 && words[3 * i + 2] == 0 {
+            return false;
         }
-        i += 1;
     }
     true
 }
 
 // The edits of n records in order, from the tree below start on: each takes apart what the one before it made.
-fn run(b: &mut [u32], low: &mut u32, start: u32, words: &[u32], n: usize) -> Made
+fn run(b: &mut [u32], low: &mut u32, start: u32, words: &[u32], n: usize) -> Option<u32>
     requires { Holding b.old (start ∷ []) × Named (heap b.old) start × (size_at (heap b.old) start ≤ 4096) × (n ≤ 512) × (3 * n ≤ length words.now) × Low b.old low.old }
     ensures { Outcome b.old b.new (start ∷ []) result (batch_rule (records_from words.now 0 n) (tree (heap b.old) start)) × Low b.new low.new }
 {
     let mut top = start;
-    let mut i = 0;
-    while i < n {
+    for i in 0..n {
         let at = 3 * i;
-        let kind = words[at];
-        let key = words[at + 1];
-        let value = words[at + 2];
-        let Made::At(next) = tree::edit(b, low, top, kind, key, value) else {
-            return Made::Full;
-        };
-        top = next;
-        i += 1;
+        top = tree::edit(b, low, top, words[at], words[at + 1], words[at + 2])?;
     }
-    Made::At(top)
+    Some(top)
 }
 
 // Version dst becomes version src after the edits of the words, three a record: kind, key, value.
-pub fn batch_words(b: &mut [u32], dst: u32, src: u32, words: &[u32]) -> u32
-    ensures { BatchWords b.old b.new dst src words.now result }
+pub fn batch_words(b: &mut [u32], dst: u32, src: u32, words: &[u32]) -> Result<(), Refusal>
+    ensures { BatchWords b.old b.new dst src words.now (code result) }
 {
-    let n = admit(b, dst, src, src);
-    if n != 0 {
-        return n;
-    }
-    if !whole(words) {
-        return EDIT;
-    }
+    admit(b, &[dst, src])?;
     let count = words.len() / 3;
-    if !known(words, count) {
-        return EDIT;
+    if !whole(words) || !known(words, count) {
+        return Err(Refusal::Edit);
     }
     if !no_zero(words, count) {
-        return ZERO;
+        return Err(Refusal::Zero);
     }
     let from = makes_from(b);
     let mut low = from;

@@ -1,14 +1,14 @@
 // The same call over a slice of records.
 ghost use Rattle.std.specs.Prelude.{◌≡◌};
 ghost use Rattle.model.specs.Batch.{records_from, Batch};
+ghost use Rattle.answers.specs.Numbers.{code};
 ghost use Rattle.batch.specs.Words.{records_of, put_record, flat};
 
 use crate::batch_words;
+use answers::Refusal;
 use table::checks::admit;
 
-const EDIT: u32 = 16;
-
-// One edit: kind 1 puts, kind 2 removes. The value of a remove is not read.
+// One edit: kind 1 puts, kind 2 removes. The value of a remove is not read. The kind is a number, since a record of any other is taken and refused.
 #[repr(C)]
 #[derive(Clone, Copy)]
 pub struct Edit {
@@ -33,32 +33,25 @@ fn put_record(words: &mut [u32; 1536], i: usize, e: Edit)
 fn words_of(edits: &[Edit], words: &mut [u32; 1536])
     ensures { words.new ≡ flat edits.now 0 words.old }
 {
-    let mut i = 0;
-    while i < edits.len() {
-        put_record(words, i, edits[i]);
-        i += 1;
+    for (i, edit) in edits.iter().enumerate() {
+        put_record(words, i, *edit);
     }
 }
 
 // A batch of the first n records that the words hold; too many are none.
-fn batch_of(b: &mut [u32], dst: u32, src: u32, words: &[u32; 1536], n: usize) -> u32
-    ensures { Batch b.old b.new dst src (records_from words.now 0 n) result }
+fn batch_of(b: &mut [u32], dst: u32, src: u32, words: &[u32; 1536], n: usize) -> Result<(), Refusal>
+    ensures { Batch b.old b.new dst src (records_from words.now 0 n) (code result) }
 {
     if 512 < n {
-        let k = admit(b, dst, src, src);
-        if k != 0 {
-            return k;
-        }
-        return EDIT;
+        admit(b, &[dst, src])?;
+        return Err(Refusal::Edit);
     }
-    let all = &words[..];
-    let end = 3 * n;
-    batch_words(b, dst, src, &all[..end])
+    batch_words(b, dst, src, &words[..3 * n])
 }
 
 // Version dst becomes version src after the edits of the records.
-pub fn batch(b: &mut [u32], dst: u32, src: u32, edits: &[Edit]) -> u32
-    ensures { Batch b.old b.new dst src (records_of edits.now) result }
+pub fn batch(b: &mut [u32], dst: u32, src: u32, edits: &[Edit]) -> Result<(), Refusal>
+    ensures { Batch b.old b.new dst src (records_of edits.now) (code result) }
 {
     let mut words = [0u32; 1536];
     words_of(edits, &mut words);

@@ -1,104 +1,22 @@
--- Words that move by a pair: the loops of an insert and a remove, and what the slice holds then.
+-- Words that move by a pair, and what the slice holds then.
 use mathlib.Core.Path.{◌≡◌, refl, ap, sym, subst, ◌∙◌}
 use mathlib.Core.Logic.{◌≢◌}
 use Prim.Native.Nat.{ℕ, zero, suc, ◌+◌, ◌-◌, ◌*◌, ◌≤◌, ◌<◌}
 use mathlib.Core.Option.{none, some}
 use mathlib.Core.List.{List, ◌∷◌, ◌++◌}
-use lib.ListN.{length, set, replicate, length-set}
+use lib.ListN.{length, set, length-set}
 use lib.Seq.{get_or-set_same, get_or-set_other}
 use native.Mathlib.Omega.{arith}
-use native.Mathlib.Decide.{ℕ_discrete, dec_lt}
+use native.Mathlib.Decide.{dec_lt}
 use Rattle.model.specs.Tree.{Cut, put, without, set_by}
 use Rattle.model.specs.Block.{word}
 use Rattle.model.specs.Calls.{fails, passes}
-use Rattle.model.specs.Kiosk.{count, key_at, value_at, pairs_from, pairs, SoundKiosk, empty_kiosk, Holds}
+use Rattle.model.specs.Kiosk.{count, key_at, value_at, pairs_from, pairs, SoundKiosk, Holds}
 use Rattle.model.proofs.maps.Finds.{sorted_without}
 use Rattle.model.proofs.maps.Maps.{put_is}
 use Rattle.model.proofs.kiosk.Pairs.{length_pairs, pairs-split, pairs_same, sound_sorted, holds_by, holds_own}
 use Rattle.kiosk.specs.Places.{Place, Opened, Closed, Putting, Editing}
 use Rattle.kiosk.proofs.Finding.{pairs_around, cut_has, cut_lacks}
-
--- words from w on stand two higher, up to `high`
-pub record Opening (k₀ k : List ℕ) (low high w : ℕ) : Type 0 where
-  pub long : length k ≡ length k₀
-  pub least : low ≤ w
-  pub most : w ≤ high
-  pub before : (v : ℕ) → v < w + 2 → word k v ≡ word k₀ v
-  pub moved : (v : ℕ) → w ≤ v → v < high → word k (v + 2) ≡ word k₀ v
-  pub behind : (v : ℕ) → high + 2 ≤ v → word k v ≡ word k₀ v
-
-pub opening_none : (k : List ℕ) (low high : ℕ) → low ≤ high → Opening k k low high high
-opening_none k low high h = record { long = refl; least = h; most = omega arith; before = λ v p. refl; moved = λ v p q. absurd (omega arith); behind = λ v p. refl }
-
-pub opening_more : {k₀ k : List ℕ} {low high w : ℕ} → Opening k₀ k low high w → low < w → high + 2 ≤ length k₀
-    → Opening k₀ (set k (w - 1 + 2) (word k (w - 1))) low high (w - 1)
-opening_more {k₀} {k} {low} {high} {w} O h fits = record {
-  long = length-set k (w - 1 + 2) (word k (w - 1)) ∙ O.long;
-  least = omega arith;
-  most = omega (arith, O.most);
-  before = λ v p. get_or-set_other k (w - 1 + 2) v (word k (w - 1)) 0 (λ e. omega arith) ∙ O.before v (omega arith);
-  moved = λ v p q. at v p q (ℕ_discrete v (w - 1));
-  behind = λ v p. get_or-set_other k (w - 1 + 2) v (word k (w - 1)) 0 (λ e. omega (arith, O.most)) ∙ O.behind v p;
-}
-  where
-    at : (v : ℕ) → w - 1 ≤ v → v < high → Dec (v ≡ w - 1) → word (set k (w - 1 + 2) (word k (w - 1))) (v + 2) ≡ word k₀ v
-    at v p q (yes e) = rw e (get_or-set_same k (w - 1 + 2) (word k (w - 1)) 0 (omega (arith, O.most, O.long)) ∙ O.before (w - 1) (omega arith))
-    at v p q (no e) = get_or-set_other k (w - 1 + 2) (v + 2) (word k (w - 1)) 0 (λ d. omega arith) ∙ O.moved v (omega arith) q
-
-pub opened-all : {k₀ k : List ℕ} {n i w : ℕ} → length k₀ ≡ 129 → n ≡ count k₀ → Opening k₀ k (1 + 2 * i) (1 + 2 * n) w → w ≤ 1 + 2 * i → Opened k₀ k i
-opened-all L e O h = record {
-  long = O.long ∙ L;
-  before = λ v p. O.before v (omega (arith, O.least));
-  moved = λ v p q. O.moved v (omega arith) (omega arith);
-  behind = λ v p. O.behind v (omega arith);
-}
-
--- words before w stand two lower, from `low` on
-pub record Closing (k₀ k : List ℕ) (low high w : ℕ) : Type 0 where
-  pub long : length k ≡ length k₀
-  pub least : low ≤ w
-  pub most : w ≤ high
-  pub before : (v : ℕ) → v < low → word k v ≡ word k₀ v
-  pub moved : (v : ℕ) → low ≤ v → v < w → word k v ≡ word k₀ (v + 2)
-  pub rest : (v : ℕ) → w ≤ v → word k v ≡ word k₀ v
-
-pub closing_none : (k : List ℕ) (low high : ℕ) → low ≤ high → Closing k k low high low
-closing_none k low high h = record { long = refl; least = omega arith; most = h; before = λ v p. refl; moved = λ v p q. absurd (omega arith); rest = λ v p. refl }
-
-pub closing_more : {k₀ k : List ℕ} {low high w : ℕ} → Closing k₀ k low high w → w < high → high ≤ length k₀
-    → Closing k₀ (set k w (word k (w + 2))) low high (w + 1)
-closing_more {k₀} {k} {low} {high} {w} C h fits = record {
-  long = length-set k w (word k (w + 2)) ∙ C.long;
-  least = omega (arith, C.least);
-  most = omega arith;
-  before = λ v p. get_or-set_other k w v (word k (w + 2)) 0 (λ e. omega (arith, C.least)) ∙ C.before v p;
-  moved = λ v p q. at v p q (ℕ_discrete v w);
-  rest = λ v p. get_or-set_other k w v (word k (w + 2)) 0 (λ e. omega arith) ∙ C.rest v (omega arith);
-}
-  where
-    at : (v : ℕ) → low ≤ v → v < w + 1 → Dec (v ≡ w) → word (set k w (word k (w + 2))) v ≡ word k₀ (v + 2)
-    at v p q (yes e) = rw e (get_or-set_same k w (word k (w + 2)) 0 (omega (arith, C.long)) ∙ C.rest (w + 2) (omega arith))
-    at v p q (no e) = get_or-set_other k w v (word k (w + 2)) 0 e ∙ C.moved v p (omega arith)
-
--- and the last pair is emptied
-pub closed_all : {k₀ k : List ℕ} {i w last : ℕ} → length k₀ ≡ 129 → count k₀ ≤ 64 → i < count k₀ → last + 1 ≡ 2 * count k₀
-    → Closing k₀ k (1 + 2 * i) last w → last ≤ w → Closed k₀ (set (set k last 0) (last + 1) 0) i
-closed_all {k₀} {k} {i} {w} {last} L few lt is C h = record {
-  long = length-set (set k last 0) (last + 1) 0 ∙ length-set k last 0 ∙ C.long ∙ L;
-  before = λ v p. kept v (λ e. omega arith) (λ e. omega arith) ∙ C.before v p;
-  moved = λ v p q. kept v (λ e. omega arith) (λ e. omega arith) ∙ C.moved v p (omega (arith, C.most));
-  last = λ v p q. gone v p q (ℕ_discrete v last);
-  behind = λ v p. kept v (λ e. omega arith) (λ e. omega arith) ∙ C.rest v (omega (arith, C.most));
-}
-  where
-    kept : (v : ℕ) → v ≢ last → v ≢ last + 1 → word (set (set k last 0) (last + 1) 0) v ≡ word k v
-    kept v p q = get_or-set_other (set k last 0) (last + 1) v 0 0 q ∙ get_or-set_other k last v 0 0 p
-
-    gone : (v : ℕ) → 1 + 2 * count k₀ ≤ v + 2 → v < 1 + 2 * count k₀ → Dec (v ≡ last) → word (set (set k last 0) (last + 1) 0) v ≡ 0
-    gone v p q (yes e) = rw e (get_or-set_other (set k last 0) (last + 1) last 0 0 (λ d. omega arith) ∙ get_or-set_same k last 0 0 (omega (arith, C.long)))
-    gone v p q (no e) =
-        let d : v ≡ last + 1 = omega arith in
-        rw d (get_or-set_same (set k last 0) (last + 1) 0 0 (omega (arith, length-set k last 0, C.long)))
 
 -- words that agree before pair i, have the key and the value there, and behind it the pairs of k from j on
 pub put-pairs : (k a : List ℕ) (i j m key value : ℕ) → ((v : ℕ) → 0 < v → v < 1 + 2 * i → word a v ≡ word k v) → key_at a i ≡ key → value_at a i ≡ value
@@ -194,11 +112,6 @@ module _ {k : List ℕ} {key i : ℕ} (S : SoundKiosk k) (P : Place k key i) whe
       let n : count k ≡ i + (count k - i) = omega (arith, P.within) in
       let z : 0 + i ≡ i = omega arith in
       record { sound = S; is = ap (pairs_from k 0) n ∙ pairs-split k 0 i (count k - i) ∙ ap (λ j. pairs_from k 0 i ++ pairs_from k j (count k - i)) z ∙ ap (λ (c : Cut). c.before ++ c.after) (sym (cut_lacks P lacks)) }
-
--- fresh
-pub cleared : (k : List ℕ) {a : List ℕ} → length k ≡ 129 → a ≡ replicate (length k) 0 → a ≡ empty_kiosk
-unfolding empty_kiosk
-cleared k e q = q ∙ ap (λ n. replicate n 0) e
 
 -- a put, by what was found at the key's place
 module _ {k : List ℕ} {key i : ℕ} (S : SoundKiosk k) (P : Place k key i) (value : ℕ) where

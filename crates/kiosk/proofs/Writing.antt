@@ -3,13 +3,11 @@ use mathlib.Core.Path.{◌≡◌, refl, ap, sym, ◌∙◌}
 use Prim.Native.Nat.{ℕ, zero, suc, ◌+◌, ◌-◌, ◌*◌, ◌/◌, ◌≤◌, ◌<◌, min}
 use mathlib.Core.List.{List, [], ◌∷◌, ◌++◌, map, append_assoc, append-nil}
 use native.Mathlib.Omega.{arith}
-use lib.ListN.{length, get_or, take, drop, set, length-append, length-drop, length-map}
+use lib.ListN.{length, get_or, take, drop, set, length-drop, length-map}
 use lib.Seq.{sets-eq, take_at, drop-append-add, drop-drop, get_or-drop}
 use Rattle.model.specs.Lists.{Report, laid, part}
 use Rattle.model.specs.Calls.{passes}
-use mathlib.Core.Logic.{◌≢◌}
-use Rattle.model.proofs.calls.Checks.{check_map}
-use Rattle.model.specs.Kiosk.{count, key_at, value_at, pairs, entry_words, SoundKiosk, Checked, Lists}
+use Rattle.model.specs.Kiosk.{count, key_at, value_at, pairs, entry_words, SoundKiosk, Lists}
 use Rattle.model.proofs.listing.Cutting.{map_at, take_min, wide_map, wide_drop, laid_long}
 use Rattle.model.proofs.kiosk.Pairs.{length_pairs, pairs_at}
 
@@ -65,9 +63,6 @@ module _ {k : List ℕ} {start n : ℕ} {o out : List ℕ} {j : ℕ} (W : Writte
   front_long : length front ≡ 4 * j
   front_long = laid_long 4 j q (wide_drop 4 start (pieces k) (wide_map 4 entry_words (λ e. refl) (pairs k))) room
 
-  pub written_long : length out ≡ length o
-  written_long = rw W.is (omega (arith, length-append front (drop (4 * j) o), length-drop (4 * j) o, front_long, W.fits, W.most))
-
   pub written_more : {after : List ℕ} (i : ℕ) → i ≡ start + j → j < n
       → after ≡ take (4 * j) out ++ (entry_words (key_at k i, value_at k i) ++ drop (4 * j + 4) out) → Written k start n o after (j + 1)
   written_more {after} i a h w =
@@ -88,14 +83,10 @@ module _ {k : List ℕ} {start n : ℕ} {o out : List ℕ} {j : ℕ} (W : Writte
             ∙ ap (λ x. laid (take (j + 1) q) ++ drop x o) s;
       }
 
-  pub written_all : n ≤ j → out ≡ laid (take n (drop start (pieces k))) ++ drop (4 * n) o
-  written_all h = let e : j ≡ n = omega (arith, W.most) in W.is ∙ rw e
-
 -- the whole call: m entries are shown
-pub listed : {k out after : List ℕ} {m i j : ℕ} (start : ℕ) (S : SoundKiosk k) → m ≡ min (length out / 4) (count k - start) → i ≡ start → j ≡ m
-    → after ≡ laid (take j (drop i (pieces k))) ++ drop (4 * j) out → Lists k out after start (record { number = 0; written = 4 * m; total = count k })
-listed {k} {out} {after} {m} {i} {j} start S e p r w =
-    passes S.long (passes S (reported, w ∙ ap (λ i. laid (take j (drop i (pieces k))) ++ drop (4 * j) out) p ∙ ap (λ j. laid (take j (drop start (pieces k))) ++ drop (4 * j) out) r ∙ rw (t, front_long)))
+pub listed : {k out after : List ℕ} {m : ℕ} (start : ℕ) (S : SoundKiosk k) → m ≡ min (length out / 4) (count k - start)
+    → after ≡ laid (take m (drop start (pieces k))) ++ drop (4 * m) out → Lists k out after start (record { number = 0; written = 4 * m; total = count k })
+listed {k} {out} {after} {m} start S e w = passes S.long (passes S (reported, w ∙ rw (t, front_long)))
   where
     many : m ≡ min (length out / 4) (length (drop start (pieces k)))
     many = rw (length-drop start (pieces k), pieces_long k) e
@@ -108,10 +99,3 @@ listed {k} {out} {after} {m} {i} {j} start S e p r w =
 
     reported : ◌≡◌ {A = Report} (record { number = 0; written = 4 * m; total = count k }) (record { number = 0; written = length (part 4 start (length out) (pieces k)); total = length (pieces k) })
     reported = rw (t, front_long, pieces_long k)
-
--- a refusal, under the number that the check gave
-pub unlisted : {k out : List ℕ} {n : ℕ} (start : ℕ) → Checked k n → n ≢ 0 → Lists k out out start (record { number = n; written = 0; total = 0 })
-unlisted start C ne = check_map C (λ e. (ap none e, refl)) (λ C. check_map C (λ e. (ap none e, refl)) (λ e. absurd (ne e)))
-  where
-    none : ℕ → Report
-    none n = record { number = n; written = 0; total = 0 }

@@ -1,25 +1,16 @@
--- The calls' answers as the documents'.
-use Rattle.std.specs.Prelude.{◌≡◌, ℕ, List, length}
+-- A line's checks, and what one step is.
+use Rattle.std.specs.Prelude.{◌≡◌, ℕ, List, length, Result}
 use Rattle.model.specs.Numbers.{SHAPE, DAMAGED}
 use Rattle.model.specs.Inbox.{SoundInbox}
-use Rattle.model.specs.Calls as calls
 use Rattle.model.specs.Calls.{Check}
-use Rattle.model.specs.Lists as lists
 use Rattle.model.specs.Link.{Step}
 use Rattle.model.specs.Kiosk.{SoundKiosk}
+use Rattle.answers.specs.declared.Fault.{Fault}
 use Rattle.judge.specs.declared.Heard.{Heard}
 use Rattle.judge.specs.Verdicts.{heard_of}
-use Rattle.kiosk.specs.declared.answers.Answer.{Answer}
-use Rattle.kiosk.specs.declared.reads.Report.{Report}
-
-abbrev pub answer_of : Answer → calls.Answer
-answer_of a = record { number = a.number; found = a.found; value = a.value }
-
-abbrev pub report_of : Report → lists.Report
-report_of r = record { number = r.number; written = r.written; total = r.total }
 
 -- kiosk and inbox before and after a line, and the answer
-abbrev pub step : (k x k' x' : List ℕ) → Heard → Step
+abbrev pub step : (k x k' x' : List ℕ) → Result Heard Fault → Step
 step k x k' x' a = record { block = k; inbox = x; block' = k'; inbox' = x'; answer = heard_of a }
 
 -- shape and soundness, kiosk before inbox in each; n is 0 where the checks pass

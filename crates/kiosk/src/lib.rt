@@ -1,13 +1,11 @@
 // The kiosk's flat table: a lent slice of 129 words, the number of entries and then 64 pairs of key and value, keys ascending.
 #![tactic(auto)]
 
-mod answers;
 mod edits;
 mod lines;
 mod reads;
 mod slice;
 
-pub use answers::Answer;
 pub use edits::{fresh, insert, remove};
 pub use lines::receive;
-pub use reads::{Report, list, lookup};
+pub use reads::{list, lookup};

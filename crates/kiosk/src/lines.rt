@@ -1,50 +1,35 @@
 // One line at a kiosk, judged as at the table. That lines heard one after another carry it from A to B is `kiosk_replicates`
 // (crate model, proofs/link/Standbys), which is stated of this contract.
 ghost use Rattle.model.specs.Kiosk.{Receive};
+ghost use Rattle.answers.specs.Numbers.{code};
 ghost use Rattle.kiosk.specs.Answers.{step, Ready};
 
 use crate::edits::edit;
 use crate::slice::{shape, sound};
-use judge::{Heard, Verdict, accept, judge, refused, repeated};
+use answers::{Fault, Refusal};
+use judge::{Heard, accept, judge, repeated};
 
-const SHAPE: u32 = 1;
-
-const DAMAGED: u32 = 2;
-
-// The checks that need no line.
-fn ready(k: &[u32], x: &[u32]) -> u32
-    ensures { Ready k.now x.now result }
+// The checks that need no line. The table has its own in `link`, with the version among them.
+fn ready(k: &[u32], x: &[u32]) -> Result<(), Refusal>
+    ensures { Ready k.now x.now (code result) }
 {
-    if !shape(k) {
-        return SHAPE;
+    if !shape(k) || !inbox::shape(x) {
+        return Err(Refusal::Shape);
     }
-    if !inbox::shape(x) {
-        return SHAPE;
+    if !sound(k) || !inbox::sound(x) {
+        return Err(Refusal::Damaged);
     }
-    if !sound(k) {
-        return DAMAGED;
-    }
-    if !inbox::sound(x) {
-        return DAMAGED;
-    }
-    0
+    Ok(())
 }
 
-pub fn receive(k: &mut [u32], x: &mut [u32], line: &[u8]) -> Heard
+// The steps are those of `link`'s receive around another edit: one function for both would take the edit as a closure over the block or the kiosk, with its contract.
+pub fn receive(k: &mut [u32], x: &mut [u32], line: &[u8]) -> Result<Heard, Fault>
     ensures { Receive (step k.old x.old k.new x.new result) line.now }
 {
-    let n = ready(k, x);
-    if n != 0 {
-        return refused(n, 0);
-    }
-    let f = match judge(x, line) {
-        Verdict::Refused(fault) => return refused(fault.number, fault.place),
-        Verdict::Repeat => return repeated(x),
-        Verdict::New(f) => f,
+    ready(k, x)?;
+    let Some(f) = judge(x, line)? else {
+        return Ok(repeated(x));
     };
-    let m = edit(k, f.kind, f.key, f.value);
-    if m != 0 {
-        return refused(m, 0);
-    }
-    accept(x, f)
+    edit(k, f.kind, f.key, f.value)?;
+    Ok(accept(x, f))
 }

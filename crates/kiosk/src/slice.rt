@@ -1,23 +1,13 @@
 // The words: shape, soundness, and where a key stands.
 ghost use Rattle.std.specs.Prelude.{◌≡◌, ◌≤◌, ◌<◌, length};
 ghost use Rattle.model.specs.Tree.{find};
-ghost use Rattle.model.specs.Calls.{finding};
 ghost use Rattle.model.specs.Tells.{Tells};
 ghost use Rattle.model.specs.Kiosk.{count, key_at, pairs, SoundKiosk, Checked};
-ghost use Rattle.kiosk.specs.Answers.{answer_of};
+ghost use Rattle.answers.specs.Numbers.{code};
+ghost use Rattle.answers.specs.Answers.{answer};
 ghost use Rattle.kiosk.specs.Places.{Ascend, Unused, Place};
 
-use crate::answers::{Answer, absent, found};
-
-const SHAPE: u32 = 1;
-
-const DAMAGED: u32 = 2;
-
-pub fn wide(x: u32) -> usize
-    ensures { result ≡ x }
-{
-    x as usize
-}
+use answers::Refusal;
 
 // Whether the kiosk has 129 words.
 pub fn shape(k: &[u32]) -> bool
@@ -31,12 +21,10 @@ fn ascending(k: &[u32], n: usize) -> bool
     requires { (length k.now ≡ 129) × (n ≤ 64) }
     ensures { Tells result (Ascend k.now n) }
 {
-    let mut i: usize = 0;
-    while i + 1 < n {
-        if k[1 + 2 * (i + 1)] <= k[1 + 2 * i] {
+    for i in 1..n {
+        if k[1 + 2 * i] <= k[2 * i - 1] {
             return false;
         }
-        i += 1;
     }
     true
 }
@@ -46,14 +34,7 @@ fn unused(k: &[u32], n: usize) -> bool
     requires { (length k.now ≡ 129) × (n ≤ 64) }
     ensures { Tells result (Unused k.now n) }
 {
-    let mut w = 1 + 2 * n;
-    while w < 129 {
-        if k[w] != 0 {
-            return false;
-        }
-        w += 1;
-    }
-    true
+    k[1 + 2 * n..].iter().all(|&word| word == 0)
 }
 
 // At most 64 entries, keys ascend, and unused pairs are zero.
@@ -61,43 +42,35 @@ pub fn sound(k: &[u32]) -> bool
     requires { length k.now ≡ 129 }
     ensures { Tells result (SoundKiosk k.now) }
 {
-    let n = wide(k[0]);
-    if 64 < n {
-        return false;
-    }
-    if !ascending(k, n) {
-        return false;
-    }
-    unused(k, n)
+    let n = k[0] as usize;
+    n <= 64 && ascending(k, n) && unused(k, n)
 }
 
-// 0 if the kiosk is sound, else SHAPE or DAMAGED.
-pub fn check(k: &[u32]) -> u32
-    ensures { Checked k.now result }
+// Whether the kiosk may be read: shape, then soundness; block and inbox have a check each (`audit::check`).
+pub fn check(k: &[u32]) -> Result<(), Refusal>
+    ensures { Checked k.now (code result) }
 {
     if !shape(k) {
-        return SHAPE;
+        return Err(Refusal::Shape);
     }
     if !sound(k) {
-        return DAMAGED;
+        return Err(Refusal::Damaged);
     }
-    0
+    Ok(())
 }
 
-// Where the key stands or would stand: how many keys are below it.
+// Where the key stands or would stand: how many keys are below it. Keys and values stand in turn, so there is no slice of keys for the library to search.
 pub fn place(k: &[u32], key: u32) -> usize
     requires { SoundKiosk k.now }
     ensures { Place k.now key result }
 {
-    let n = wide(k[0]);
-    let mut i: usize = 0;
-    while i < n {
+    let n = k[0] as usize;
+    for i in 0..n {
         if key <= k[1 + 2 * i] {
             return i;
         }
-        i += 1;
     }
-    i
+    n
 }
 
 // Whether the key is that of pair i.
@@ -105,19 +78,17 @@ pub fn has(k: &[u32], key: u32, i: usize) -> bool
     requires { SoundKiosk k.now × (i ≤ count k.now) }
     ensures { Tells result ((i < count k.now) × (key_at k.now i ≡ key)) }
 {
-    if wide(k[0]) <= i {
-        return false;
-    }
-    k[1 + 2 * i] == key
+    i < k[0] as usize && k[1 + 2 * i] == key
 }
 
 // What stands under the key, whose place is i.
-pub fn value_at(k: &[u32], key: u32, i: usize) -> Answer
+pub fn value_at(k: &[u32], key: u32, i: usize) -> Option<u32>
     requires { SoundKiosk k.now × Place k.now key i }
-    ensures { answer_of result ≡ finding (find (pairs k.now) key) }
+    ensures { answer result ≡ find (pairs k.now) key }
 {
     if has(k, key, i) {
-        return found(k[2 + 2 * i]);
+        Some(k[2 + 2 * i])
+    } else {
+        None
     }
-    absent()
 }

@@ -6,6 +6,5 @@ pub mod Refusals
 pub mod Once
 pub mod Standby
 pub mod Ranges
-pub mod Tests
 pub mod Asking
 pub mod Reaching

@@ -3,17 +3,16 @@ use mathlib.Core.Path.{◌≡◌, refl, ap, sym, subst, ◌∙◌}
 use mathlib.Core.Logic.{◌≢◌}
 use Prim.Native.Nat.{ℕ, ◌<◌}
 use mathlib.Core.Option.{none, some}
-use mathlib.Core.List.{List, []}
+use mathlib.Core.List.{List, [], ◌∷◌}
 use native.Mathlib.Omega.{arith}
 use native.Mathlib.Decide.{ℕ_discrete}
 use Rattle.model.specs.Tree.{Entry, entries, lookup, find}
 use Rattle.model.specs.Heap.{version}
 use Rattle.model.specs.Block.{heap, SoundBlock}
 use Rattle.model.specs.Numbers.{ZERO}
-use Rattle.model.specs.Calls.{fails, passes, Answer, finding, Edit, Edits, Lookup}
+use Rattle.model.specs.Calls.{fails, passes, Answer, finding, Versions, Edit, Edits, Lookup}
 use Rattle.model.proofs.calls.Meanings.{edit_done, refused_edit_changes_nothing, others_keep_their_entries, lookup_finds}
 use Rattle.model.proofs.calls.Refusals.{zero_exactly}
-use Rattle.table.proofs.Admitting.{one_known, two_known}
 use Rattle.ledger.specs.Numbers.{OPEN, TOTAL, EDIT_REFUSED}
 use Rattle.ledger.specs.Ledger.{fresh_ledger, accounts, Formed, account_of, Reply, replying, Act, turned_away, Reserve, Settle}
 use Rattle.ledger.specs.Steps.{Steps, beside}
@@ -26,6 +25,15 @@ use Rattle.ledger.proofs.Asking.{finding-number}
 -- a refusal has one number
 other : {s : Act} {n m k : ℕ} → turned_away s n m → n ≢ k → s.answer.number ≢ k
 other r ne e = ne (sym (ap (λ (x : Reply). x.number) r.0) ∙ e)
+
+-- the versions that a lookup and an edit of one version name
+one_known : {v : ℕ} → v < 16 → Versions (v ∷ [])
+unfolding Versions
+one_known lt = (lt, tt)
+
+two_known : {v : ℕ} → v < 16 → Versions (v ∷ v ∷ [])
+unfolding Versions
+two_known lt = (lt, (lt, tt))
 
 -- the table looks up in every version of a sound block
 looked_up : {b : List ℕ} {v : ℕ} (call : ℕ) {a : Answer} → SoundBlock b → v < 16 → Lookup b v call a → a.number ≡ 0
@@ -63,8 +71,8 @@ reserve_zero s v call F K B lt n (passes p (fails k r)) = absurd (k K)
 reserve_zero s v call F K B lt n (passes p (passes k (a, L, fails u r))) = absurd (u (looked_up call B lt L))
 reserve_zero s v call F K B lt n (passes p (passes k (a, L, passes u (fails f r)))) = absurd (f (ap (λ (x : Answer). x.found) (lookup_finds v call L u ∙ ap finding n)))
 reserve_zero s v call F K B lt n (passes p (passes k (a, L, passes u (passes f (fails q r))))) = absurd (q (omega arith))
-reserve_zero s v call F K B lt n (passes p (passes k (a, L, passes u (passes f (passes q (d, E, fails w r)))))) = r.0 ∙ ap (replying EDIT_REFUSED) ((zero_exactly v v call 0 E).1 (B, two_known lt lt, refl))
-reserve_zero s v call F K B lt n (passes p (passes k (a, L, passes u (passes f (passes q (d, E, passes w r)))))) = let z : ◌≡◌ {A = ℕ} 13 0 = sym ((zero_exactly v v call 0 E).1 (B, two_known lt lt, refl)) ∙ w in absurd (omega arith)
+reserve_zero s v call F K B lt n (passes p (passes k (a, L, passes u (passes f (passes q (d, E, fails w r)))))) = r.0 ∙ ap (replying EDIT_REFUSED) ((zero_exactly v v call 0 E).1 (B, two_known lt, refl))
+reserve_zero s v call F K B lt n (passes p (passes k (a, L, passes u (passes f (passes q (d, E, passes w r)))))) = let z : ◌≡◌ {A = ℕ} 13 0 = sym ((zero_exactly v v call 0 E).1 (B, two_known lt, refl)) ∙ w in absurd (omega arith)
 
 -- Steps of the history.
 

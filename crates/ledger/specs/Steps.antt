@@ -3,7 +3,7 @@ use Rattle.std.specs.Prelude.{◌≡◌, ℕ, ◌+◌, true, false, List, eqb}
 use Rattle.model.specs.Tree.{entries}
 use Rattle.model.specs.Heap.{version}
 use Rattle.model.specs.Block.{heap, SoundBlock}
-use Rattle.ledger.specs.Ledger.{topped, spent, free, if_own, reserved, Reply, replying, Act, TopUp, Reserve, Settle, Release}
+use Rattle.ledger.specs.Ledger.{topped, spent, free, if_own, reserved, Reply, Act, TopUp, Reserve, Settle, Release}
 
 pub data Operation : Type 0 where
   top_up : (account minutes : ℕ) → Operation

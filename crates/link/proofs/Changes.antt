@@ -10,10 +10,10 @@ use Rattle.model.specs.Block.{heap}
 use Rattle.model.specs.Frame as lines
 use Rattle.model.specs.Link.{frame_rule}
 use Rattle.model.proofs.rules.Orders.{edit_by_ordered}
-use Rattle.block.specs.declared.Made.{Made}
+use Rattle.std.specs.Prelude.{Option}
 use Rattle.block.specs.Outcome.{Outcome}
 use Rattle.frame.specs.declared.Frame.{Frame}
-use Rattle.table.proofs.Settling.{Source}
+use Rattle.table.specs.Answers.{Source}
 use Rattle.link.specs.Answers.{rule_of}
 
 -- every kind keeps the order of keys
@@ -21,7 +21,7 @@ pub rule_ordered : (f : lines.Frame) (t : Tree) (s : Supply) → Ordered t → O
 unfolding frame_rule
 rule_ordered f t s o = edit_by_ordered f.kind f.key f.value t s o
 
-pub rule_made : {b c : List ℕ} {v r : ℕ} {q : Made} (f : Frame) → Source b v r
+pub rule_made : {b c : List ℕ} {v r : ℕ} {q : Option ℕ} (f : Frame) → Source b v r
     → Outcome b c (r ∷ []) q (edit_by f.kind f.key f.value (tree (heap b) r)) → Outcome b c (r ∷ []) q (rule_of b v f)
 unfolding frame_rule
 rule_made f S O = rw (← S.is) O

@@ -13,31 +13,19 @@ use Rattle.model.specs.Frame.{Frame, line}
 use Rattle.model.specs.Inbox.{batch_of, count_of, heard_at, SoundInbox}
 use Rattle.model.specs.Calls.{fails, passes}
 use Rattle.model.specs.Link.{CheckedInbox}
-use Rattle.model.specs.Lists.{Report}
 use Rattle.model.specs.Request.{Run, run_line, placed, request_lines, missing_runs, unheard, request_of, Ask}
 use Rattle.model.proofs.link.Lines.{line-length}
 use Rattle.model.proofs.listing.Cutting.{wide_map}
 use Rattle.model.proofs.requests.Requests.{placed-length, request_most}
-use Rattle.requests.specs.declared.runs.Found.{Found}
-use Rattle.requests.specs.declared.runs.Found.TheVariants as found
-use Rattle.requests.specs.Runs.{runs_from, Finds, alone_of}
+use Rattle.std.specs.Prelude.{Option, Some, None, Result, Ok, Err}
+use Rattle.answers.specs.declared.Refusal.{Refusal}
+use Rattle.answers.specs.Numbers.{number, code}
+use Rattle.answers.specs.Answers.{report_of}
+use Rattle.answers.proofs.NotDone.{some_number}
+use Rattle.requests.specs.declared.runs.Run as code
+use Rattle.requests.specs.Runs.{runs_from, run_of, Finds, alone_of}
 use Rattle.lists.specs.Reports.{refused, Wrote}
 use Rattle.lists.proofs.Laying.{Laid, laid_none, laid_next, laid-all}
-
--- One line alone is written if it is wanted and has room.
-module _ (f : Frame) (start : ℕ) (o : List ℕ) {k : ℕ} (room : k ≡ min (length o / 35) (1 - start)) where
-  begun : Laid (line f ∷ []) start k o o 0
-  begun = laid_none (wide_map 35 line line-length (f ∷ [])) room
-
-  pub one_none : k ≡ 0 → Wrote (line f ∷ []) start o 0 o
-  one_none z = let d = laid-all begun (sym z) in (omega (arith, z, d.0), d.1)
-
-  pub one_written : {after : List ℕ} → k ≢ 0 → after ≡ take 0 o ++ (line f ++ drop (0 + 35) o) → Wrote (line f ∷ []) start o 35 after
-  one_written n e =
-      let first : start + 0 ≡ 0 = omega (arith, n, room) in
-      let one : 0 + 1 ≡ k = omega (arith, n, room) in
-      let d = laid-all (laid_next begun 0 (line f) (omega arith) (omega (arith, n)) (rw first refl) e) one in
-      (omega (arith, one, d.0), d.1)
 
 -- The request of an inbox, by its runs.
 module _ (x : List ℕ) where
@@ -123,29 +111,29 @@ module _ {x : List ℕ} {count start k : ℕ} {o : List ℕ} (R : Ready x count 
   pub asking_begun : {at : ℕ} → (runs_from x at ≡ drop start (runs_from x 0)) × (at ≤ count_of x) → Asking x count start k o o at 0
   asking_begun p = let e : start + 0 ≡ start = omega arith in record { ready = R; laid = none_laid; rest = rw e p.0; within = p.1 }
 
-module _ {x : List ℕ} {count start k : ℕ} {o out : List ℕ} {at i : ℕ} (A : Asking x count start k o out at i) {q : Found} (F : Finds x at q) (h : i < k) where
+module _ {x : List ℕ} {count start k : ℕ} {o out : List ℕ} {at i : ℕ} (A : Asking x count start k o out at i) {q : Option code.Run} (F : Finds x at q) (h : i < k) where
   -- there is a run left
-  pub asking_some : q ≡ found.None → ⊥
+  pub asking_some : q ≡ None → ⊥
   asking_some e =
       let none : runs_from x at ≡ [] = subst (λ r. Finds x at r) e F in
       omega (arith, h, A.ready.room, A.ready.is, length-drop (start + i) (runs_from x 0), ap length (sym A.rest ∙ none))
 
-  module _ {a b : ℕ} (e : q ≡ found.Run a b) where
-    first : Finds x at (found.Run a b)
+  module _ {r : code.Run} (e : q ≡ Some r) where
+    first : Finds x at (Some r)
     first = subst (λ r. Finds x at r) e F
 
-    pub asking_last : b < count_of x
+    pub asking_last : r.last < count_of x
     asking_last = first.2
 
-    pub asking_next : {after : List ℕ} {f : Frame} (from : ℕ) → from ≡ 35 * i → f ≡ run_line (batch_of x) count (start + i) (record { first = a; last = b })
-        → after ≡ take from out ++ (line f ++ drop (from + 35) out) → Asking x count start k o after (b + 1) (i + 1)
+    pub asking_next : {after : List ℕ} {f : Frame} (from : ℕ) → from ≡ 35 * i → f ≡ run_line (batch_of x) count (start + i) (run_of r)
+        → after ≡ take from out ++ (line f ++ drop (from + 35) out) → Asking x count start k o after (r.last + 1) (i + 1)
     asking_next {after} {f} from s g w =
         let R = runs_from x 0 in
-        let here : drop (start + i) R ≡ record { first = a; last = b } ∷ runs_from x (suc b) = sym A.rest ∙ first.0 in
+        let here : drop (start + i) R ≡ run_of r ∷ runs_from x (suc r.last) = sym A.rest ∙ first.0 in
         let z : 0 + (start + i) ≡ start + i = omega arith in
         let is = ap line g ∙ (rw z at (placed_at (batch_of x) count 0 (start + i) R here)) in
         let m : start + (i + 1) ≡ start + i + 1 = omega arith in
-        let n : b + 1 ≡ suc b = omega arith in
+        let n : r.last + 1 ≡ suc r.last = omega arith in
         record {
           ready = A.ready;
           laid = laid_next A.laid from (line f) s h is w;
@@ -155,27 +143,30 @@ module _ {x : List ℕ} {count start k : ℕ} {o out : List ℕ} {at i : ℕ} (A
 
 -- What ask answers behind each check of the inbox.
 
-pub ask_refused : {x out : List ℕ} {n : ℕ} (start : ℕ) (a : Report) → CheckedInbox x n → n ≢ 0 → a ≡ refused n → Ask x out out start a
-ask_refused start a (fails p r) ne e = fails p (e ∙ ap refused r, refl)
-ask_refused start a (passes p (fails q r)) ne e = passes p (fails q (e ∙ ap refused r, refl))
-ask_refused start a (passes p (passes q r)) ne e = absurd (ne r)
+pub ask_refused : {x out : List ℕ} (start : ℕ) (r : Refusal) → CheckedInbox x (number r) → Ask x out out start (report_of (Err r))
+ask_refused start r (fails p e) = fails p (ap refused e, refl)
+ask_refused start r (passes p (fails q e)) = passes p (fails q (ap refused e, refl))
+ask_refused start r (passes p (passes q e)) = absurd (some_number r e)
 
-pub inbox_sound : {x : List ℕ} {n : ℕ} → CheckedInbox x n → n ≡ 0 → SoundInbox x
-inbox_sound (fails p r) z = let e : ◌≡◌ {A = ℕ} 1 0 = sym r ∙ z in absurd (omega arith)
-inbox_sound (passes p (fails q r)) z = let e : ◌≡◌ {A = ℕ} 2 0 = sym r ∙ z in absurd (omega arith)
-inbox_sound (passes p (passes q r)) z = q
+sound_inbox : {x : List ℕ} → CheckedInbox x 0 → SoundInbox x
+sound_inbox (fails p r) = let e : ◌≡◌ {A = ℕ} 0 1 = r in absurd (omega arith)
+sound_inbox (passes p (fails q r)) = let e : ◌≡◌ {A = ℕ} 0 2 = r in absurd (omega arith)
+sound_inbox (passes p (passes q r)) = q
 
-module _ {x out after : List ℕ} (S : SoundInbox x) (start : ℕ) (a : Report) where
+pub inbox_sound : {A : Type 0} {x : List ℕ} {r : Result A Refusal} {y : A} → r ≡ Ok y → CheckedInbox x (code r) → SoundInbox x
+inbox_sound {x = x} e C = sound_inbox (subst (λ q. CheckedInbox x (code q)) e C)
+
+module _ {x out after : List ℕ} (S : SoundInbox x) (start : ℕ) where
   asked : {fs : List Frame} {w t : ℕ} → request_of x ≡ fs → Wrote (map line fs) start out w after → t ≡ length fs
-      → a ≡ record { number = 0; written = w; total = t } → Ask x out after start a
-  asked e d g r = passes S.long (passes S (rw e (r ∙ rw (d.0, g) refl, d.1)))
+      → Ask x out after start (report_of (Ok (record { written = w; total = t })))
+  asked e d g = passes S.long (passes S (rw e (rw (d.0, g) refl, d.1)))
 
   pub ask_one : {n w : ℕ} {f : Frame} → n ≡ length (runs_from x 0) → n ≡ 0 → f ≡ alone_of (batch_of x) (count_of x)
-      → Wrote (line f ∷ []) start out w after → a ≡ record { number = 0; written = w; total = 1 } → Ask x out after start a
-  ask_one e z g d r = asked (none_request x (sym e ∙ z) ∙ ap (λ (h : Frame). h ∷ []) (sym g)) d refl r
+      → Wrote (line f ∷ []) start out w after → Ask x out after start (report_of (Ok (record { written = w; total = 1 })))
+  ask_one e z g d = asked (none_request x (sym e ∙ z) ∙ ap (λ (h : Frame). h ∷ []) (sym g)) d refl
 
   pub ask_runs : {n w : ℕ} → n ≡ length (runs_from x 0) → n ≢ 0 → Wrote (run_lines x n) start out w after
-      → a ≡ record { number = 0; written = w; total = n } → Ask x out after start a
-  ask_runs {n} e ne d r =
+      → Ask x out after start (report_of (Ok (record { written = w; total = n })))
+  ask_runs {n} e ne d =
       let same = runs_request x (λ z. ne (e ∙ z)) ∙ ap (λ m. placed (batch_of x) m 0 (runs_from x 0)) (sym e) in
-      asked same d (e ∙ sym (placed-length (batch_of x) n 0 (runs_from x 0))) r
+      asked same d (e ∙ sym (placed-length (batch_of x) n 0 (runs_from x 0)))

@@ -6,35 +6,36 @@ use mathlib.Core.List.{List, [], ◌∷◌, map}
 use native.Mathlib.Omega.{arith}
 use lib.ListN.{length, get_or, take, length-map}
 use lib.Seq.{length-take-le, get_or-take}
-use Rattle.model.specs.Frame.{Frame, line, frames_of, frame_at}
+use Rattle.std.proofs.lemmas.Simd.{map-map}
+use Rattle.model.specs.Frame.{Frame, nothing, line, frames_of, frame_at}
 use Rattle.model.specs.Request.{wanted}
-use Rattle.model.proofs.link.Lines.{line-length}
-use Rattle.model.proofs.listing.Cutting.{map_at, Wide, wide_map}
+use Rattle.model.proofs.listing.Cutting.{map_at}
 use Rattle.requests.specs.Reading.{choice}
 use Rattle.lists.specs.Changes.{changes_in, at_least_one, frame_in, chosen_in}
 use Rattle.lists.proofs.Framing.{frames_long, frame_in_lem}
 
--- the lines of the first n words
+-- the frames of the first n words, and their lines
 module _ (batch puts count : ℕ) (ws : List ℕ) (n : ℕ) (chosen : List ℕ) where
-  pub chosen_wide : Wide 35 (chosen_in batch puts count ws n chosen)
+  abbrev pub chosen_frames : List Frame
+  chosen_frames = map (frame_in batch puts count ws) (take n chosen)
+
+  pub chosen_lines : map line chosen_frames ≡ chosen_in batch puts count ws n chosen
   unfolding chosen_in
-  chosen_wide = wide_map 35 (λ i. line (frame_in batch puts count ws i)) (λ i. line-length (frame_in batch puts count ws i)) (take n chosen)
+  chosen_lines = map-map line (frame_in batch puts count ws) (take n chosen)
 
   pub chosen_many : length (chosen_in batch puts count ws n chosen) ≡ length (take n chosen)
   unfolding chosen_in
   chosen_many = length-map (take n chosen) (λ i. line (frame_in batch puts count ws i))
 
   module _ (h : n ≤ length chosen) where
-    pub chosen_long : length (chosen_in batch puts count ws n chosen) ≡ n
-    chosen_long = chosen_many ∙ length-take-le n chosen h
+    pub chosen_long : length chosen_frames ≡ n
+    chosen_long = length-map (take n chosen) (frame_in batch puts count ws) ∙ length-take-le n chosen h
 
-    pub chosen_at : {at : ℕ} (i : ℕ) → at ≡ i → i < n → {f : Frame} → f ≡ frame_in batch puts count ws (get_or chosen at 0)
-        → line f ≡ get_or (chosen_in batch puts count ws n chosen) i []
-    unfolding chosen_in
-    chosen_at i a l e =
+    pub chosen_at : (i : ℕ) → i < n → frame_in batch puts count ws (get_or chosen i 0) ≡ frame_at chosen_frames i
+    chosen_at i l =
         let m = length-take-le n chosen h in
-        let f : ℕ → List ℕ = λ j. line (frame_in batch puts count ws j) in
-        ap line e ∙ ap (λ j. f (get_or chosen j 0)) a ∙ sym (map_at f (take n chosen) i 0 [] (omega arith) ∙ ap f (get_or-take n chosen i 0 l))
+        let f : ℕ → Frame = frame_in batch puts count ws in
+        sym (map_at f (take n chosen) i 0 (nothing 0) (omega arith) ∙ ap f (get_or-take n chosen i 0 l))
 
 -- the indexes that are wanted of n from i on
 pub choice_few : (want : ℕ → Bool) (i n : ℕ) → length (choice want i n) ≤ n

@@ -14,12 +14,13 @@ use Rattle.model.specs.Delta.{Change, puts, removes, delta, delta_deep}
 use Rattle.model.proofs.listing.DeltaRoom.{listing-room, delta-room}
 use Rattle.walk.specs.declared.Wanted.{Wanted}
 use Rattle.walk.specs.declared.Wanted.TheVariants.{Puts, Removes}
-use Rattle.walk.specs.declared.Walked.{Walked}
-use Rattle.walk.specs.declared.Walked.TheVariants.{Total, TooDeep}
+use Rattle.std.specs.Prelude.{Result, Ok, Err}
+use Rattle.answers.specs.declared.Refusal.{Refusal}
+use Rattle.answers.specs.declared.Refusal.TheVariants.{TooDeep}
 use Rattle.walk.specs.Rows.{written, answer, change_words, Changes}
 use Rattle.walk.proofs.Changes.{puts_changes, removes_changes}
 use Rattle.lists.specs.Changes.{changes_in}
-use Rattle.lists.proofs.Listing.{answer_deep, answer-total}
+use Rattle.lists.proofs.Listing.{answer_err, answer-total}
 use Rattle.lists.proofs.Holding.{change_words_long, change_words-append, puts-put, removes-remove, puts_few, Held, held_all}
 
 -- changes that all find room
@@ -29,7 +30,7 @@ unfolding written
 written_changes w rows cs out C h = rw (C.words 0 (length out), take_all (length out / 2) cs h, change_words_long cs)
 
 -- the walk of version c against version a, before the other
-pub record First (b : List ℕ) (a c : ℕ) (ws ws1 : List ℕ) (q : Walked) : Type 0 where
+pub record First (b : List ℕ) (a c : ℕ) (ws ws1 : List ℕ) (q : Result ℕ Refusal) : Type 0 where
   pub sound : SoundBlock b
   pub from : a < 16
   pub to : c < 16
@@ -38,12 +39,12 @@ pub record First (b : List ℕ) (a c : ℕ) (ws ws1 : List ℕ) (q : Walked) : T
   pub wrote : ws1 ≡ written Puts 0 (listing (version (heap b) c) (version (heap b) a)).rows ws
 
 -- the walk of version a against version c, into the words from `at` on
-pub record Second (b : List ℕ) (a c : ℕ) (at : ℕ) (ws1 ys : List ℕ) (q : Walked) : Type 0 where
+pub record Second (b : List ℕ) (a c : ℕ) (at : ℕ) (ws1 ys : List ℕ) (q : Result ℕ Refusal) : Type 0 where
   pub answered : q ≡ answer Removes (listing (version (heap b) a) (version (heap b) c))
   pub wrote : ys ≡ written Removes 0 (listing (version (heap b) a) (version (heap b) c)).rows (take (length ws1 - at) (drop at ws1))
 
 -- both from the roots x and y
-module _ {b : List ℕ} {a c x y : ℕ} {q : Walked} (from : x ≡ (heap b).root a) (to : y ≡ (heap b).root c) where
+module _ {b : List ℕ} {a c x y : ℕ} {q : Result ℕ Refusal} (from : x ≡ (heap b).root a) (to : y ≡ (heap b).root c) where
   pub first_walk : {ws ws1 : List ℕ} → SoundBlock b × (a < 16) × (c < 16) × (length ws ≡ 8192) → q ≡ answer Puts (listing (tree (heap b) y) (tree (heap b) x))
       → ws1 ≡ written Puts 0 (listing (tree (heap b) y) (tree (heap b) x)).rows ws → First b a c ws ws1 q
   first_walk p e f = record { sound = p.0; from = p.1; to = p.2; long = p.3; answered = rw (from, to) at e; wrote = rw (from, to) at f }
@@ -52,18 +53,18 @@ module _ {b : List ℕ} {a c x y : ℕ} {q : Walked} (from : x ≡ (heap b).root
       → ys ≡ written Removes 0 (listing (tree (heap b) x) (tree (heap b) y)).rows (take (length ws1 - at) (drop at ws1)) → Second b a c at ws1 ys q
   second_walk e f = record { answered = rw (from, to) at e; wrote = rw (from, to) at f }
 
-module _ {b : List ℕ} {a c : ℕ} {ws ws1 : List ℕ} {q : Walked} (F : First b a c ws ws1 q) where
+module _ {b : List ℕ} {a c : ℕ} {ws ws1 : List ℕ} {q : Result ℕ Refusal} (F : First b a c ws ws1 q) where
   abbrev A : Tree
   A = version (heap b) a
 
   abbrev C : Tree
   C = version (heap b) c
 
-  pub first_deep : q ≡ TooDeep → delta_deep A C ≡ true
+  pub first_deep : {r : Refusal} → q ≡ Err r → (r ≡ TooDeep) × (delta_deep A C ≡ true)
   unfolding delta_deep
-  first_deep e = rw (answer_deep Puts (listing C A) (sym e ∙ F.answered))
+  first_deep e = let d = answer_err Puts (listing C A) (sym e ∙ F.answered) in (d.0, rw d.1)
 
-  module _ {n : ℕ} (e : q ≡ Total n) where
+  module _ {n : ℕ} (e : q ≡ Ok n) where
     abbrev ps : List Change
     ps = puts (listing C A).rows
 
@@ -85,12 +86,12 @@ module _ {b : List ℕ} {a c : ℕ} {ws ws1 : List ℕ} {q : Walked} (F : First 
     pub first_long : length ws1 ≡ 8192
     first_long = rw first_words (omega (arith, length-append (change_words ps) (drop (2 * length ps) ws), length-drop (2 * length ps) ws, change_words_long ps, first_few, first_count, F.long))
 
-    module _ {at : ℕ} {ys : List ℕ} {r : Walked} (S : Second b a c at ws1 ys r) where
-      pub second_deep : r ≡ TooDeep → delta_deep A C ≡ true
+    module _ {at : ℕ} {ys : List ℕ} {r : Result ℕ Refusal} (S : Second b a c at ws1 ys r) where
+      pub second_deep : {s : Refusal} → r ≡ Err s → (s ≡ TooDeep) × (delta_deep A C ≡ true)
       unfolding delta_deep
-      second_deep f = rw (shallow, answer_deep Removes (listing A C) (sym f ∙ S.answered))
+      second_deep f = let d = answer_err Removes (listing A C) (sym f ∙ S.answered) in (d.0, rw (shallow, d.1))
 
-      pub collected : (m : ℕ) → r ≡ Total m → at ≡ 2 * n
+      pub collected : (m : ℕ) → r ≡ Ok m → at ≡ 2 * n
           → (delta_deep A C ≡ false) × (changes_in n (take at ws1 ++ (ys ++ drop (length ws1 - at) (drop at ws1))) (n + m) 0 ≡ delta A C) × (n + m ≤ 4096)
       unfolding delta delta_deep
       collected m f i =

@@ -1,17 +1,15 @@
 -- The lines of the changes that words hold are those of the delta, each 35 bytes long.
-use mathlib.Core.Path.{◌≡◌, refl, ap, sym, subst, ◌∙◌}
+use mathlib.Core.Path.{◌≡◌, refl, ap, subst, ◌∙◌}
 use mathlib.Core.Logic.{◌≢◌}
 use Prim.Native.Nat.{ℕ, zero, suc, ◌+◌, ◌*◌, ◌≤◌, ◌<◌}
 use mathlib.Core.Option.{none, some}
-use mathlib.Core.List.{List, []}
+use mathlib.Core.List.{List}
 use native.Mathlib.Omega.{arith}
-use lib.ListN.{length, get_or, length-map}
+use lib.ListN.{length, get_or}
 use borrow.Author.Tests.{lt-ltb, le-ltb}
-use Rattle.model.specs.Frame.{Frame, line, frame_of, nothing, frames_of, frame_at}
-use Rattle.model.proofs.link.Lines.{line-length}
+use Rattle.model.specs.Frame.{frame_of, frames_of, frame_at}
 use Rattle.model.proofs.link.Frames.{frames-length, frame_at_lem}
-use Rattle.model.proofs.listing.Cutting.{map_at, Wide, wide_map}
-use Rattle.lists.specs.Changes.{change_in, changes_in, at_least_one, frame_in, lines_in}
+use Rattle.lists.specs.Changes.{change_in, changes_in, at_least_one, frame_in}
 use Rattle.lists.proofs.Holding.{changes_length, changes_at}
 
 -- "nothing changed" counts as one
@@ -63,19 +61,3 @@ module _ (batch puts : ℕ) (ws : List ℕ) where
       let l = changes_length puts ws (suc n) 0 in
       let z : 0 + i ≡ i = omega arith in
       frame_at_lem batch (changes_in puts ws (suc n) 0) i (omega arith) ∙ rw (l, changes_at puts ws (suc n) 0 i h, z)
-
-  module _ (n : ℕ) where
-    pub lines_wide : Wide 35 (lines_in batch puts n ws)
-    unfolding lines_in
-    lines_wide = wide_map 35 line line-length (frames_of batch (changes_in puts ws n 0))
-
-    pub lines_long : length (lines_in batch puts n ws) ≡ at_least_one n
-    unfolding lines_in
-    lines_long = length-map (frames_of batch (changes_in puts ws n 0)) line ∙ frames_long n
-
-    pub lines_at : (i : ℕ) → i < at_least_one n → {f : Frame} → f ≡ frame_in batch puts n ws i → line f ≡ get_or (lines_in batch puts n ws) i []
-    unfolding lines_in
-    lines_at i h e =
-        let fs = frames_of batch (changes_in puts ws n 0) in
-        let l = frames_long n in
-        ap line e ∙ sym (map_at line fs i (nothing 0) [] (omega arith) ∙ ap line (frame_in_lem n i h))

@@ -10,38 +10,38 @@ use lib.Seq.{take_all, length-take-le}
 use Rattle.model.specs.Heap.{tree, version}
 use Rattle.model.specs.Block.{heap}
 use Rattle.model.specs.Listing.{Row, Walk, listing}
-use Rattle.model.specs.Numbers.{TOO_DEEP}
-use Rattle.model.specs.Lists.{Report, Lists, listed, row_words, laid, over}
+use Rattle.model.specs.Lists.{Lists, listed, row_words, laid, over}
 use Rattle.model.specs.Lists as model
 use Rattle.model.proofs.listing.DeltaRoom.{listing-room}
 use Rattle.walk.specs.declared.Wanted.{Wanted}
 use Rattle.walk.specs.declared.Wanted.TheVariants.{Rows}
-use Rattle.walk.specs.declared.Walked.{Walked}
-use Rattle.walk.specs.declared.Walked.TheVariants.{Total, TooDeep}
+use Rattle.std.specs.Prelude.{Result, Ok, Err}
+use Rattle.answers.specs.declared.Refusal.{Refusal}
+use Rattle.answers.specs.declared.Refusal.TheVariants.{TooDeep}
+use Rattle.answers.specs.Answers.{report_of}
 use Rattle.walk.specs.Rows.{chosen, common_of, value_of, words, words_of, part, written, answer}
 use Rattle.walk.proofs.Outputs.{part_long}
-use Rattle.table.proofs.Admitting.{Admission, two_known}
-use Rattle.lists.specs.Reports.{refused}
-use Rattle.lists.proofs.Reporting.{Begun, lists_deep, lists_done}
+use Rattle.table.proofs.Admitting.{Admission, known_first, known_second}
+use Rattle.lists.proofs.Reporting.{lists_deep, lists_done}
 use Rattle.model.proofs.listing.Cutting.{take_min}
 use Rattle.lists.proofs.Laying.{take-map, drop-map}
 
 -- what a walk's answer says
 module _ (w : Wanted) (k : Walk) where
-  pub answer_deep : TooDeep ≡ answer w k → k.deep ≡ true
+  pub answer_err : {r : Refusal} → Err r ≡ answer w k → (r ≡ TooDeep) × (k.deep ≡ true)
   unfolding answer
-  answer_deep e = go k.deep e
+  answer_err {r} e = go k.deep e
     where
-      go : (d : Bool) → TooDeep ≡ elim d [ true ↦ TooDeep | false ↦ Total (length (chosen w k.rows)) ] → d ≡ true
-      go true e = refl
-      go false e = let z : ◌≡◌ {A = ℕ} 0 1 = cc in absurd (omega arith)
+      go : (d : Bool) → ◌≡◌ {A = Result ℕ Refusal} (Err r) (elim d [ true ↦ Err TooDeep | false ↦ Ok (length (chosen w k.rows)) ]) → (r ≡ TooDeep) × (d ≡ true)
+      go true e = (cc, refl)
+      go false e = absurd (cc)
 
-  pub answer-total : {n : ℕ} → Total n ≡ answer w k → (k.deep ≡ false) × (n ≡ length (chosen w k.rows))
+  pub answer-total : {n : ℕ} → Ok n ≡ answer w k → (k.deep ≡ false) × (n ≡ length (chosen w k.rows))
   unfolding answer
   answer-total {n} e = go k.deep e
     where
-      go : (d : Bool) → Total n ≡ elim d [ true ↦ TooDeep | false ↦ Total (length (chosen w k.rows)) ] → (d ≡ false) × (n ≡ length (chosen w k.rows))
-      go true e = let z : ◌≡◌ {A = ℕ} 0 1 = cc in absurd (omega arith)
+      go : (d : Bool) → ◌≡◌ {A = Result ℕ Refusal} (Ok n) (elim d [ true ↦ Err TooDeep | false ↦ Ok (length (chosen w k.rows)) ]) → (d ≡ false) × (n ≡ length (chosen w k.rows))
+      go true e = absurd (cc)
       go false e = (refl, cc)
 
 -- the words of all rows
@@ -95,50 +95,46 @@ copied start m rs ws out h e =
     rw (all-chosen rs, all, fits, words_take m q (drop (length (words_of Rows q)) ws) (omega arith), n)
 
 -- what the walk from the two roots gave
-pub record Walks (b : List ℕ) (left right start : ℕ) (ws after : List ℕ) (q : Walked) : Type 0 where
-  pub admitted : Admission b left right right
+pub record Walks (b : List ℕ) (left right start : ℕ) (ws after : List ℕ) (q : Result ℕ Refusal) : Type 0 where
+  pub admitted : Admission b (left ∷ right ∷ [])
   pub long : length ws ≡ 16384
   pub answered : q ≡ answer Rows (listing (version (heap b) left) (version (heap b) right))
   pub wrote : after ≡ written Rows start (listing (version (heap b) left) (version (heap b) right)).rows ws
 
 -- from the roots l and r
-pub from_roots : {b : List ℕ} {left right l r start : ℕ} {ws after : List ℕ} {q : Walked} → Admission b left right right → length ws ≡ 16384
+pub from_roots : {b : List ℕ} {left right l r start : ℕ} {ws after : List ℕ} {q : Result ℕ Refusal} → Admission b (left ∷ right ∷ []) → length ws ≡ 16384
     → l ≡ (heap b).root left → r ≡ (heap b).root right
     → q ≡ answer Rows (listing (tree (heap b) l) (tree (heap b) r))
     → after ≡ written Rows start (listing (tree (heap b) l) (tree (heap b) r)).rows ws → Walks b left right start ws after q
 from_roots A long el er e f = record { admitted = A; long = long; answered = rw (el, er) at e; wrote = rw (el, er) at f }
 
-module _ {b ws words : List ℕ} {left right start : ℕ} {q : Walked} (W : Walks b left right start ws words q) where
+module _ {b ws words : List ℕ} {left right start : ℕ} {q : Result ℕ Refusal} (W : Walks b left right start ws words q) where
   abbrev k : Walk
   k = listing (version (heap b) left) (version (heap b) right)
 
-  begun : Begun b (listed b left right)
-  begun = record { sound = W.admitted.sound; versions = two_known W.admitted.first W.admitted.second }
-
-  pub walked_deep : {out : List ℕ} (a : Report) → q ≡ TooDeep → a ≡ refused TOO_DEEP → Lists b out out start (listed b left right) a
-  walked_deep a e f = lists_deep start (listed b left right) begun a (answer_deep Rows k (sym e ∙ W.answered)) f refl
+  pub walked_deep : {out : List ℕ} {r : Refusal} → q ≡ Err r → Lists b out out start (listed b left right) (report_of (Err r))
+  walked_deep e = let d = answer_err Rows k (sym e ∙ W.answered) in lists_deep start (listed b left right) W.admitted d.1 d.0 refl
 
   -- at most N, so that four times as many is a u32
-  pub walked_few : (n : ℕ) → q ≡ Total n → (n ≡ length k.rows) × (n ≤ 4096)
+  pub walked_few : (n : ℕ) → q ≡ Ok n → (n ≡ length k.rows) × (n ≤ 4096)
   walked_few n e =
       let d = answer-total Rows k (sym e ∙ W.answered) in
       let A = W.admitted in
       let same : n ≡ length k.rows = d.1 ∙ ap length (all-chosen k.rows) in
-      (same, omega (arith, listing-room (heap b) A.sound.sound left right A.first A.second d.0, A.sound.shaped.most))
+      (same, omega (arith, listing-room (heap b) A.sound.sound left right (known_first _ A.versions) (known_second _ _ A.versions) d.0, A.sound.shaped.most))
 
   wrote : (out : List ℕ) → written Rows start k.rows out ≡ over (model.part 4 start (length out) (map row_words k.rows)) out
   unfolding written
   wrote out = rw (part_rows start (length out) k.rows)
 
-  -- m rows are copied, i words
-  pub walked_done : {out after : List ℕ} {i : ℕ} (a : Report) (n m : ℕ) → q ≡ Total n → m ≡ min (length out / 4) (n - start) → i ≡ 4 * m
-      → after ≡ take i words ++ drop i out
-      → a ≡ record { number = 0; written = 4 * m; total = n } → Lists b out after start (listed b left right) a
-  walked_done {out} {after} {i} a n m e g j c f =
+  -- m rows are copied
+  pub walked_done : {out after : List ℕ} (n m : ℕ) → q ≡ Ok n → m ≡ min (length out / 4) (n - start) → after ≡ take (4 * m) words ++ drop (4 * m) out
+      → Lists b out after start (listed b left right) (report_of (Ok (record { written = 4 * m; total = n })))
+  walked_done {out} {after} n m e g c =
       let d = answer-total Rows k (sym e ∙ W.answered) in
       let s = walked_few n e in
       let P = part_rows start (length out) k.rows in
       let total : n ≡ length (map row_words k.rows) = s.0 ∙ sym (length-map k.rows row_words) in
       let long : 4 * m ≡ length (model.part 4 start (length out) (map row_words k.rows)) = rw (← P) (omega (arith, part_long Rows start k.rows (length out), d.1)) in
-      let same : after ≡ written Rows start k.rows out = c ∙ rw (j, W.wrote) (copied start m k.rows ws out (omega (arith, W.long)) (omega (arith, s.0))) in
-      lists_done start (listed b left right) begun a d.0 (f ∙ cc) (same ∙ wrote out)
+      let same : after ≡ written Rows start k.rows out = c ∙ rw W.wrote (copied start m k.rows ws out (omega (arith, W.long)) (omega (arith, s.0))) in
+      lists_done start (listed b left right) W.admitted d.0 long total (same ∙ wrote out)

@@ -1,39 +1,37 @@
 -- The checks in their order, and what a call that lists answers behind each.
 use mathlib.Core.Path.{◌≡◌, refl, ap, sym, ◌∙◌}
-use mathlib.Core.Logic.{◌≢◌}
 use Prim.Native.Nat.{ℕ, ◌≤◌}
 use mathlib.Core.Bool.{true, false, true≢false}
 use mathlib.Core.List.{List}
 use native.Mathlib.Omega.{arith}
 use lib.ListN.{length, take, drop, length-append}
 use lib.Seq.{take_at}
-use Rattle.model.specs.Block.{SoundBlock}
-use Rattle.model.specs.Numbers.{TOO_DEEP}
-use Rattle.model.specs.Calls.{fails, passes, Versions, Admitted}
+use Rattle.model.specs.Calls.{fails, passes, Admitted}
 use Rattle.model.specs.Lists.{Report, Pieces, Lists, part, over}
 use Rattle.model.proofs.calls.Once.{check_once}
+use Rattle.std.specs.Prelude.{Ok, Err}
+use Rattle.answers.specs.declared.Refusal.{Refusal}
+use Rattle.answers.specs.declared.Refusal.TheVariants.{TooDeep}
+use Rattle.answers.specs.Numbers.{number}
+use Rattle.answers.specs.Answers.{report_of}
+use Rattle.answers.proofs.NotDone.{some_number}
+use Rattle.table.proofs.Admitting.{Admission}
 use Rattle.lists.specs.Reports.{refused, Empty, Shows}
 
 -- a check of the block or of the versions fails
-pub lists_refused : {b out : List ℕ} {n : ℕ} (start : ℕ) (p : Pieces) (a : Report) → Admitted b p.versions n → n ≢ 0 → a ≡ refused n
-    → Lists b out out start p a
-lists_refused start p a (fails q r) ne e = fails q (e ∙ ap refused r, refl)
-lists_refused start p a (passes q (fails s r)) ne e = passes q (fails s (e ∙ ap refused r, refl))
-lists_refused start p a (passes q (passes s (fails u r))) ne e = passes q (passes s (fails u (e ∙ ap refused r, refl)))
-lists_refused start p a (passes q (passes s (passes u r))) ne e = absurd (ne r)
+pub lists_refused : {b out : List ℕ} (start : ℕ) (p : Pieces) (r : Refusal) → Admitted b p.versions (number r) → Lists b out out start p (report_of (Err r))
+lists_refused start p r (fails q e) = fails q (ap refused e, refl)
+lists_refused start p r (passes q (fails s e)) = passes q (fails s (ap refused e, refl))
+lists_refused start p r (passes q (passes s (fails u e))) = passes q (passes s (fails u (ap refused e, refl)))
+lists_refused start p r (passes q (passes s (passes u e))) = absurd (some_number r e)
 
--- the checks before the depth pass
-pub record Begun (b : List ℕ) (p : Pieces) : Type 0 where
-  pub sound : SoundBlock b
-  pub versions : Versions p.versions
+module _ {b out after : List ℕ} (start : ℕ) (p : Pieces) (A : Admission b p.versions) where
+  pub lists_deep : {r : Refusal} → p.deep ≡ true → r ≡ TooDeep → after ≡ out → Lists b out after start p (report_of (Err r))
+  lists_deep d e k = passes A.sound.shaped (passes A.sound (passes A.versions (fails (λ f. true≢false (sym d ∙ f)) (ap (λ (r : Refusal). report_of (Err r)) e, k))))
 
-module _ {b out after : List ℕ} (start : ℕ) (p : Pieces) (B : Begun b p) (a : Report) where
-  pub lists_deep : p.deep ≡ true → a ≡ refused TOO_DEEP → after ≡ out → Lists b out after start p a
-  lists_deep d e k = passes B.sound.shaped (passes B.sound (passes B.versions (fails (λ f. true≢false (sym d ∙ f)) (e, k))))
-
-  pub lists_done : p.deep ≡ false → a ≡ record { number = 0; written = length (part p.width start (length out) p.pieces); total = length p.pieces }
-      → after ≡ over (part p.width start (length out) p.pieces) out → Lists b out after start p a
-  lists_done d e k = passes B.sound.shaped (passes B.sound (passes B.versions (passes d (e, k))))
+  pub lists_done : {w t : ℕ} → p.deep ≡ false → w ≡ length (part p.width start (length out) p.pieces) → t ≡ length p.pieces
+      → after ≡ over (part p.width start (length out) p.pieces) out → Lists b out after start p (report_of (Ok (record { written = w; total = t })))
+  lists_done d e f k = passes A.sound.shaped (passes A.sound (passes A.versions (passes d (rw (e, f) refl, k))))
 
 -- The part of the output that is written, as the caller gets it.
 

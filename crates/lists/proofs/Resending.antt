@@ -1,6 +1,5 @@
 -- What resend answers behind each check: a request that is read, its batch, the depth, and the asked lines.
 use mathlib.Core.Path.{◌≡◌, refl, ap, sym, subst, ◌∙◌}
-use mathlib.Core.Logic.{◌≢◌}
 use Prim.Native.Nat.{ℕ, ◌*◌, ◌/◌, ◌≤◌, ◌<◌}
 use mathlib.Core.Bool.{Bool, true, false, true≢false}
 use mathlib.Core.Option.{Option, none, some}
@@ -11,15 +10,19 @@ use lib.Seq.{get_or-take}
 use Rattle.model.specs.Heap.{version}
 use Rattle.model.specs.Block.{heap}
 use Rattle.model.specs.Frame.{Frame, line, frames_of, frames}
-use Rattle.model.specs.Numbers.{TOO_DEEP, BATCH, REQUEST}
 use Rattle.model.specs.Calls.{fails, passes, Admitted}
 use Rattle.model.specs.Lists.{Report, part, over}
 use Rattle.model.specs.Request.{asked, well_formed, cutting, all_fields, read_request, all_of, wanted, Primary, Sends, Resend}
 use Rattle.model.proofs.requests.RequestLines.{lines_long, read_exactly}
 use Rattle.requests.specs.Reading.{holds, counting, choice, Chooses}
-use Rattle.table.proofs.Admitting.{Admission, two_known}
-use Rattle.lists.specs.declared.changes.Collected.{Collected}
-use Rattle.lists.specs.declared.changes.Collected.TheVariants.{Changes, TooDeep}
+use Rattle.table.proofs.Admitting.{Admission}
+use Rattle.std.specs.Prelude.{Result, Ok, Err}
+use Rattle.answers.specs.declared.Refusal.{Refusal}
+use Rattle.answers.specs.declared.Refusal.TheVariants.{Batch, Request}
+use Rattle.answers.specs.Numbers.{number}
+use Rattle.answers.specs.Answers.{report_of}
+use Rattle.answers.proofs.NotDone.{some_number}
+use Rattle.lists.specs.declared.changes.Changes.{Changes}
 use Rattle.lists.specs.Reports.{refused, Wrote}
 use Rattle.lists.specs.Changes.{at_least_one, chosen_in}
 use Rattle.lists.proofs.Sending.{Gathered, held, too_deep}
@@ -88,38 +91,39 @@ module _ {fs : List Frame} {end total : ℕ} {chosen : List ℕ} (P : Picked fs 
       omega (arith, e, choice_below (asked fs) 0 end i (omega (arith, P.count)))
 
 -- a check of the block or of the versions fails
-pub resend_refused : {n : ℕ} {out : List ℕ} (p : Primary) (request : List ℕ) (start : ℕ) (a : Report) → Admitted p.block (p.from ∷ p.to ∷ []) n → n ≢ 0
-    → a ≡ refused n → Resend p request out out start a
-resend_refused p request start a (fails q r) ne e = fails q (e ∙ ap refused r, refl)
-resend_refused p request start a (passes q (fails s r)) ne e = passes q (fails s (e ∙ ap refused r, refl))
-resend_refused p request start a (passes q (passes s (fails u r))) ne e = passes q (passes s (fails u (e ∙ ap refused r, refl)))
-resend_refused p request start a (passes q (passes s (passes u r))) ne e = absurd (ne r)
+pub resend_refused : {out : List ℕ} (p : Primary) (request : List ℕ) (start : ℕ) (r : Refusal) → Admitted p.block (p.from ∷ p.to ∷ []) (number r)
+    → Resend p request out out start (report_of (Err r))
+resend_refused p request start r (fails q e) = fails q (ap refused e, refl)
+resend_refused p request start r (passes q (fails s e)) = passes q (fails s (ap refused e, refl))
+resend_refused p request start r (passes q (passes s (fails u e))) = passes q (passes s (fails u (ap refused e, refl)))
+resend_refused p request start r (passes q (passes s (passes u e))) = absurd (some_number r e)
 
-module _ (p : Primary) (request : List ℕ) {out after : List ℕ} (start : ℕ) (a : Report) (A : Admission p.block p.from p.to p.to) where
-  admitted : {o : Option (List Frame)} → read_request request ≡ o → Sends p o out after start a → Resend p request out after start a
-  admitted e s = passes A.sound.shaped (passes A.sound (passes (two_known A.first A.second) (subst (λ o. Sends p o out after start a) (sym e) s)))
+module _ (p : Primary) (request : List ℕ) {out after : List ℕ} (start : ℕ) (A : Admission p.block (p.from ∷ p.to ∷ [])) where
+  admitted : {o : Option (List Frame)} {a : Report} → read_request request ≡ o → Sends p o out after start a → Resend p request out after start a
+  admitted {o} {a} e s = passes A.sound.shaped (passes A.sound (passes A.versions (subst (λ o. Sends p o out after start a) (sym e) s)))
 
-  pub resend_unread : read_request request ≡ none → a ≡ refused REQUEST → after ≡ out → Resend p request out after start a
-  resend_unread e r k = admitted e (r, k)
+  pub resend_unread : read_request request ≡ none → after ≡ out → Resend p request out after start (report_of (Err Request))
+  resend_unread e k = admitted e (refl, k)
 
   module _ {n : ℕ} {fs : List Frame} (R : Read request n fs) where
-    pub resend_batch : all_of p.batch fs ≡ false → a ≡ refused BATCH → after ≡ out → Resend p request out after start a
-    resend_batch f r k = admitted R.is (fails (λ t. true≢false (sym t ∙ f)) (r, k))
+    pub resend_batch : all_of p.batch fs ≡ false → after ≡ out → Resend p request out after start (report_of (Err Batch))
+    resend_batch f k = admitted R.is (fails (λ t. true≢false (sym t ∙ f)) (refl, k))
 
-    module _ (own : all_of p.batch fs ≡ true) {ws : List ℕ} {q : Collected} (G : Gathered p.block p.from p.to ws q) where
-      pub resend_deep : q ≡ TooDeep → a ≡ refused TOO_DEEP → after ≡ out → Resend p request out after start a
-      resend_deep e r k = admitted R.is (passes own (fails (λ t. true≢false (sym (too_deep G e) ∙ t)) (r, k)))
+    module _ (own : all_of p.batch fs ≡ true) {ws : List ℕ} {q : Result Changes Refusal} (G : Gathered p.block p.from p.to ws q) where
+      pub resend_deep : {r : Refusal} → q ≡ Err r → after ≡ out → Resend p request out after start (report_of (Err r))
+      resend_deep e k =
+          let d = too_deep G e in
+          admitted R.is (passes own (fails (λ t. true≢false (sym d.1 ∙ t)) (ap (λ (r : Refusal). report_of (Err r)) d.0, k)))
 
-      pub resend_done : {total : ℕ} {chosen : List ℕ} (puts m w : ℕ) → q ≡ Changes puts m → Picked fs (at_least_one m) total chosen
-          → Wrote (chosen_in p.batch puts m ws total chosen) start out w after
-          → a ≡ record { number = 0; written = w; total = total } → Resend p request out after start a
-      resend_done {total} {chosen} puts m w e P d r =
+      pub resend_done : {total : ℕ} {chosen : List ℕ} {k : Changes} (w : ℕ) {m : ℕ} → q ≡ Ok k → Picked fs (at_least_one k.count) total chosen
+          → Wrote (chosen_in p.batch k.puts k.count ws total chosen) start out w after → m ≡ total → Resend p request out after start (report_of (Ok (record { written = w; total = m })))
+      resend_done {total} {chosen} {k} w e P d r =
           let h = held G e in
           let batch = p.batch in
           let sent = wanted (asked fs) 0 (frames batch (version (heap p.block) p.from) (version (heap p.block) p.to)) in
-          let L : chosen_in batch puts m ws total chosen ≡ map line sent =
-          chosen-wanted (asked fs) batch puts m ws chosen total P.are ∙ ap (λ cs. map line (wanted (asked fs) 0 (frames_of batch cs))) h.1 in
-          let many = chosen_many batch puts m ws total chosen in
+          let L : chosen_in batch k.puts k.count ws total chosen ≡ map line sent =
+          chosen-wanted (asked fs) batch k.puts k.count ws chosen total P.are ∙ ap (λ cs. map line (wanted (asked fs) 0 (frames_of batch cs))) h.1 in
+          let many = chosen_many batch k.puts k.count ws total chosen in
           let t : total ≡ length sent = P.count ∙ ap length (sym P.are) ∙ sym many ∙ ap length L ∙ length-map sent line in
           let u : w ≡ length (part 35 start (length out) (map line sent)) = d.0 ∙ ap (λ ls. length (part 35 start (length out) ls)) L in
-          admitted R.is (passes own (passes h.0 (r ∙ rw (u, t) refl, d.1 ∙ ap (λ ls. over (part 35 start (length out) ls) out) L)))
+          admitted R.is (passes own (passes h.0 (rw (u, r, t) refl, d.1 ∙ ap (λ ls. over (part 35 start (length out) ls) out) L)))

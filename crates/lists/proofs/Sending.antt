@@ -2,55 +2,53 @@
 use mathlib.Core.Path.{◌≡◌, refl, ap, sym, subst, ◌∙◌}
 use Prim.Native.Nat.{ℕ, ◌≤◌}
 use mathlib.Core.Bool.{true}
-use mathlib.Core.List.{List, map}
-use lib.ListN.{length}
+use mathlib.Core.List.{List, [], ◌∷◌, map}
+use lib.ListN.{length, length-map}
 use Rattle.model.specs.Tree.{Tree}
 use Rattle.model.specs.Delta.{delta_deep}
 use Rattle.model.specs.Heap.{version}
 use Rattle.model.specs.Block.{heap}
-use Rattle.model.specs.Numbers.{TOO_DEEP}
 use Rattle.model.specs.Frame.{line, frames_of, frames}
-use Rattle.model.specs.Lists.{Report, Lists, framed, part, over}
-use Rattle.table.proofs.Admitting.{Admission, two_known}
-use Rattle.lists.specs.declared.changes.Collected.{Collected}
-use Rattle.lists.specs.declared.changes.Collected.TheVariants.{Changes, TooDeep}
-use Rattle.lists.specs.Reports.{refused, Wrote}
-use Rattle.lists.specs.Changes.{Collects, at_least_one, lines_in}
-use Rattle.lists.proofs.Reporting.{Begun, lists_deep, lists_done}
-use Rattle.lists.proofs.Framing.{lines_long}
+use Rattle.model.specs.Lists.{Lists, framed, part, over}
+use Rattle.table.proofs.Admitting.{Admission}
+use Rattle.std.specs.Prelude.{Result, Ok, Err}
+use Rattle.answers.specs.declared.Refusal.{Refusal}
+use Rattle.answers.specs.declared.Refusal.TheVariants.{TooDeep}
+use Rattle.answers.specs.Answers.{report_of}
+use Rattle.lists.specs.declared.changes.Changes.{Changes}
+use Rattle.lists.specs.Reports.{Wrote}
+use Rattle.lists.specs.Changes.{Collects, at_least_one, changes_in}
+use Rattle.lists.proofs.Reporting.{lists_deep, lists_done}
+use Rattle.lists.proofs.Framing.{frames_long}
 
 -- the changes from version a to version c, collected in ws
-pub record Gathered (b : List ℕ) (a c : ℕ) (ws : List ℕ) (q : Collected) : Type 0 where
-  pub admitted : Admission b a c c
+pub record Gathered (b : List ℕ) (a c : ℕ) (ws : List ℕ) (q : Result Changes Refusal) : Type 0 where
+  pub admitted : Admission b (a ∷ c ∷ [])
   pub is : Collects (version (heap b) a) (version (heap b) c) ws q
 
-module _ {b ws : List ℕ} {a c : ℕ} {q : Collected} (G : Gathered b a c ws q) where
+module _ {b ws : List ℕ} {a c : ℕ} {q : Result Changes Refusal} (G : Gathered b a c ws q) where
   abbrev A : Tree
   A = version (heap b) a
 
   abbrev C : Tree
   C = version (heap b) c
 
-  begun : (batch : ℕ) → Begun b (framed b a c batch)
-  begun batch = record { sound = G.admitted.sound; versions = two_known G.admitted.first G.admitted.second }
-
-  pub held : {p n : ℕ} → q ≡ Changes p n → Collects A C ws (Changes p n)
+  pub held : {k : Changes} → q ≡ Ok k → Collects A C ws (Ok k)
   held e = subst (λ x. Collects A C ws x) e G.is
 
-  pub too_deep : q ≡ TooDeep → delta_deep A C ≡ true
+  pub too_deep : {r : Refusal} → q ≡ Err r → (r ≡ TooDeep) × (delta_deep A C ≡ true)
   too_deep e = subst (λ x. Collects A C ws x) e G.is
 
-  pub gathered_deep : {out : List ℕ} (start batch : ℕ) (r : Report) → q ≡ TooDeep → r ≡ refused TOO_DEEP → Lists b out out start (framed b a c batch) r
-  gathered_deep start batch r e f = lists_deep start (framed b a c batch) (begun batch) r (too_deep e) f refl
+  pub gathered_deep : {out : List ℕ} {r : Refusal} (start batch : ℕ) → q ≡ Err r → Lists b out out start (framed b a c batch) (report_of (Err r))
+  gathered_deep start batch e = let d = too_deep e in lists_deep start (framed b a c batch) G.admitted d.1 d.0 refl
 
-  pub gathered_few : {p n : ℕ} → q ≡ Changes p n → n ≤ 4096
+  pub gathered_few : {k : Changes} → q ≡ Ok k → k.count ≤ 4096
   gathered_few e = (held e).2
 
-  pub gathered_done : {out after : List ℕ} (start batch p n w : ℕ) → q ≡ Changes p n → Wrote (lines_in batch p n ws) start out w after
-      → (r : Report) → r ≡ record { number = 0; written = w; total = at_least_one n } → Lists b out after start (framed b a c batch) r
-  unfolding lines_in
-  gathered_done {out} {after} start batch p n w e d r h =
-      let L : lines_in batch p n ws ≡ map line (frames batch A C) = ap (λ cs. map line (frames_of batch cs)) (held e).1 in
-      let t : at_least_one n ≡ length (map line (frames batch A C)) = sym (lines_long batch p ws n) ∙ ap length L in
+  pub gathered_done : {out after : List ℕ} {k : Changes} (start batch w : ℕ) {m : ℕ} → q ≡ Ok k → Wrote (map line (frames_of batch (changes_in k.puts ws k.count 0))) start out w after
+      → m ≡ at_least_one k.count → Lists b out after start (framed b a c batch) (report_of (Ok (record { written = w; total = m })))
+  gathered_done {out} {after} {k} start batch w e d h =
+      let L : map line (frames_of batch (changes_in k.puts ws k.count 0)) ≡ map line (frames batch A C) = ap (λ cs. map line (frames_of batch cs)) (held e).1 in
+      let t : at_least_one k.count ≡ length (map line (frames batch A C)) = sym (length-map (frames_of batch (changes_in k.puts ws k.count 0)) line ∙ frames_long batch k.puts ws k.count) ∙ ap length L in
       let u : w ≡ length (part 35 start (length out) (map line (frames batch A C))) = d.0 ∙ ap (λ ls. length (part 35 start (length out) ls)) L in
-      lists_done start (framed b a c batch) (begun batch) r (held e).0 (h ∙ cc) (d.1 ∙ ap (λ ls. over (part 35 start (length out) ls) out) L)
+      lists_done start (framed b a c batch) G.admitted (held e).0 u (h ∙ t) (d.1 ∙ ap (λ ls. over (part 35 start (length out) ls) out) L)

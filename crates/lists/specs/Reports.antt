@@ -1,14 +1,10 @@
--- The calls' reports as document 01's, and what the call that returns a part answers.
+-- What is written of lines, and what the call that returns a part answers.
 use Rattle.std.specs.Prelude.{◌≡◌, ℕ, false, List, [], length}
 use Rattle.model.specs.Block.{Shaped, SoundBlock}
 use Rattle.model.specs.Numbers.{SHAPE, DAMAGED, VERSION, TOO_DEEP}
 use Rattle.model.specs.Calls.{Check, Versions}
 use Rattle.model.specs.Lists.{Pieces, part, over}
 use Rattle.model.specs.Lists as lists
-use Rattle.lists.specs.declared.reports.Report.{Report}
-
-abbrev pub report_of : Report → lists.Report
-report_of r = record { number = r.number; written = r.written; total = r.total }
 
 -- a refusal returns its number and zeros
 abbrev pub refused : ℕ → lists.Report

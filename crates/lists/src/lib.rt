@@ -5,6 +5,5 @@ pub mod ask;
 mod changes;
 pub mod entries;
 pub mod lines;
-pub mod reports;
 pub mod resend;
 pub mod same;

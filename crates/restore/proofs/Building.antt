@@ -17,25 +17,24 @@ use Rattle.model.proofs.running.Growing.{came_holding}
 use Rattle.model.proofs.rules.Steady.{Onward, bind_onward, make_onward}
 use Rattle.model.proofs.link.Texts.{entries-length, entries-take, entries-drop, entries_at}
 use Rattle.model.proofs.calls.Builds.{left_fits, right_fits, built-size, built_onward}
-use Rattle.block.specs.declared.Made.{Made}
-use Rattle.block.specs.declared.Made.TheVariants.{At, Full}
+use Rattle.std.specs.Prelude.{Option, Some, None}
 use Rattle.block.specs.Outcome.{Outcome}
 use Rattle.block.proofs.Outcomes.{stock, out_bind, out_stop, out_done, out_size}
 use Rattle.block.proofs.Levels.{Asks, then_still, then_right}
 
 -- the entries es were built from b to e, whatever fuel that is enough
-abbrev pub Builds : (b e : List ℕ) → List Entry → Made → Type 0
+abbrev pub Builds : (b e : List ℕ) → List Entry → Option ℕ → Type 0
 Builds b e es q = (fuel : ℕ) → length es ≤ fuel → Outcome b e [] q (built fuel es)
 
 -- no entries
-pub builds_none : (b : List ℕ) (es : List Entry) → Holding b [] → length es ≡ 0 → Builds b b es (At 0)
+pub builds_none : (b : List ℕ) (es : List Entry) → Holding b [] → length es ≡ 0 → Builds b b es (Some 0)
 unfolding built tree load held
 builds_none b [] H e zero h = out_done b 0 (λ n i. omega (arith, hit_no 0 n (omega arith))) H.running tt
 builds_none b [] H e (suc fuel) h = out_done b 0 (λ n i. omega (arith, hit_no 0 n (omega arith))) H.running tt
 builds_none b (x ∷ es) H e fuel h = absurd (omega arith)
 
 -- the size of what was built
-builds_size : {b c qs : List ℕ} {x : ℕ} (es : List Entry) → Holding b qs → Builds b c es (At x) → size_at (heap c) x ≡ length es
+builds_size : {b c qs : List ℕ} {x : ℕ} (es : List Entry) → Holding b qs → Builds b c es (Some x) → size_at (heap c) x ≡ length es
 unfolding held
 builds_size {b} {c} {qs} {x} es H B =
     let n = length es in
@@ -54,7 +53,7 @@ top e fuel rs t = built fuel rs >>= λ u. make e.0 e.1 t u
 top_onward : (e : Entry) (fuel : ℕ) (rs : List Entry) (t : Tree) → Onward (top e fuel rs t)
 top_onward e fuel rs t = bind_onward (built fuel rs) (λ u. make e.0 e.1 t u) (built_onward fuel rs) (λ u. make_onward e.0 e.1 t u)
 
-level : {b e : List ℕ} {q : Made} {es ls rs : List Entry} (x : Entry) → Sides es ls rs → ((d : Entry) → get_or es (middle es) d ≡ x)
+level : {b e : List ℕ} {q : Option ℕ} {es ls rs : List Entry} (x : Entry) → Sides es ls rs → ((d : Entry) → get_or es (middle es) d ≡ x)
     → ((fuel : ℕ) → length ls ≤ fuel → length rs ≤ fuel → Outcome b e [] q (built fuel ls >>= top x fuel rs)) → Builds b e es q
 unfolding built
 level {es = []} x S g O fuel h = absurd (omega (arith, S.some))
@@ -69,12 +68,12 @@ level {b} {e} {q} {es = y ∷ es} {ls} {rs} x S g O (suc fuel) h =
 
 module _ {b : List ℕ} {es ls rs : List Entry} (H : Holding b []) (S : Sides es ls rs) (x : Entry) (g : (d : Entry) → get_or es (middle es) d ≡ x) where
   -- no room for the left side
-  stops_left : {c : List ℕ} → Builds b c ls Full → Builds b c es Full
+  stops_left : {c : List ℕ} → Builds b c ls None → Builds b c es None
   unfolding held
   stops_left {c} A = level x S g (λ fuel p q. out_stop b c (built fuel ls) (top x fuel rs) (λ n i. omega arith) (A fuel p) (top_onward x fuel rs))
 
-  module _ {c : List ℕ} {l : ℕ} (A : Builds b c ls (At l)) where
-    abbrev O : Outcome b c [] (At l) (built (length ls) ls)
+  module _ {c : List ℕ} {l : ℕ} (A : Builds b c ls (Some l)) where
+    abbrev O : Outcome b c [] (Some l) (built (length ls) ls)
     O = A (length ls) (omega arith)
 
     -- the left side is a piece
@@ -88,14 +87,14 @@ module _ {b : List ℕ} {es ls rs : List Entry} (H : Holding b []) (S : Sides es
     then_holds = came_holding H O.came [] (λ n i. omega arith) (λ n i. omega arith)
 
     -- no room for it
-    stops_right : {d : List ℕ} → Builds c d rs Full → Builds b d es Full
+    stops_right : {d : List ℕ} → Builds c d rs None → Builds b d es None
     unfolding held
     stops_right {d} B =
         let last : Tree → Make Tree = λ u. make x.0 x.1 (tree (heap c) l) u in
-        level x S g (λ fuel p q. out_bind b c d [] l Full (built fuel ls) (top x fuel rs) (λ n i. omega arith) (λ n i. omega arith) (A fuel p)
+        level x S g (λ fuel p q. out_bind b c d [] l None (built fuel ls) (top x fuel rs) (λ n i. omega arith) (λ n i. omega arith) (A fuel p)
         (out_stop c d {ins = []} {tot = l ∷ []} (built fuel rs) last (λ n i. omega arith) (B fuel q) (λ u. make_onward x.0 x.1 (tree (heap c) l) u)))
 
-    module _ {d : List ℕ} {r : ℕ} (B : Builds c d rs (At r)) where
+    module _ {d : List ℕ} {r : ℕ} (B : Builds c d rs (Some r)) where
       -- the left side is still a piece beside what the right side became
       beside : (n : ℕ) → 1 ≤ n → held [] n + held (l ∷ []) n ≤ held (l ∷ []) n
       unfolding held
@@ -109,7 +108,7 @@ module _ {b : List ℕ} {es ls rs : List Entry} (H : Holding b []) (S : Sides es
           then_right one (B (length rs) (omega arith)) l beside (omega (arith, builds_size ls H A, builds_size rs one B, left, right))
 
       -- and what it makes
-      builds_all : {e : List ℕ} {q : Made} → Outcome d e (l ∷ r ∷ []) q (make x.0 x.1 (tree (heap d) l) (tree (heap d) r)) → Builds b e es q
+      builds_all : {e : List ℕ} {q : Option ℕ} → Outcome d e (l ∷ r ∷ []) q (make x.0 x.1 (tree (heap d) l) (tree (heap d) r)) → Builds b e es q
       unfolding held
       builds_all {e} {q} M =
           let last : Tree → Make Tree = λ u. make x.0 x.1 (tree (heap c) l) u in
@@ -163,35 +162,35 @@ module _ {b t : List ℕ} (G : Begun b t) where
   abbrev middle_is : (d : Entry) → get_or (entries_of t) (middle (entries_of t)) d ≡ entry_at t (half t)
   middle_is = text_middle t G.some
 
-  pub no_first : {c : List ℕ} → Builds b c (entries_of (first t)) Full → Builds b c (entries_of t) Full
+  pub no_first : {c : List ℕ} → Builds b c (entries_of (first t)) None → Builds b c (entries_of t) None
   no_first = stops_left G.holds S (entry_at t (half t)) middle_is
 
-  module _ {c : List ℕ} {l : ℕ} (A : Builds b c (entries_of (first t)) (At l)) where
+  module _ {c : List ℕ} {l : ℕ} (A : Builds b c (entries_of (first t)) (Some l)) where
     pub first_holds : Holding c []
     first_holds = then_holds G.holds S (entry_at t (half t)) middle_is A
 
-    pub no_second : {d : List ℕ} → Builds c d (entries_of (second t)) Full → Builds b d (entries_of t) Full
+    pub no_second : {d : List ℕ} → Builds c d (entries_of (second t)) None → Builds b d (entries_of t) None
     no_second = stops_right G.holds S (entry_at t (half t)) middle_is A
 
-    module _ {d : List ℕ} {r : ℕ} (B : Builds c d (entries_of (second t)) (At r)) where
+    module _ {d : List ℕ} {r : ℕ} (B : Builds c d (entries_of (second t)) (Some r)) where
       pub both_ask : Asks d l r
       both_ask = make_asks G.holds S (entry_at t (half t)) middle_is A B (omega (arith, G.few, entries-length t 0 (length t / 17)))
 
-      pub both_made : {e : List ℕ} {q : Made} (x : Entry) → x ≡ entry_at t (half t)
+      pub both_made : {e : List ℕ} {q : Option ℕ} (x : Entry) → x ≡ entry_at t (half t)
           → Outcome d e (l ∷ r ∷ []) q (make x.0 x.1 (tree (heap d) l) (tree (heap d) r)) → Builds b e (entries_of t) q
       both_made x p M = builds_all G.holds S x (λ d. middle_is d ∙ sym p) A B M
 
 -- A single line has no lines before it and none behind: both sides are empty, and one make is all.
 module _ {b t : List ℕ} (G : Begun b t) (single : length t < 34) where
-  before : Builds b b (entries_of (first t)) (At 0)
+  before : Builds b b (entries_of (first t)) (Some 0)
   before = builds_none b (entries_of (first t)) G.holds (omega (arith, entries-length (first t) 0 (length (first t) / 17), first_length t G.some))
 
-  behind : Builds b b (entries_of (second t)) (At 0)
+  behind : Builds b b (entries_of (second t)) (Some 0)
   behind = builds_none b (entries_of (second t)) G.holds (omega (arith, entries-length (second t) 0 (length (second t) / 17), second_length t G.some))
 
   pub single_asks : Asks b 0 0
   single_asks = both_ask G before behind
 
-  pub single_made : {e : List ℕ} {q : Made} (x : Entry) → x ≡ entry_at t 0
+  pub single_made : {e : List ℕ} {q : Option ℕ} (x : Entry) → x ≡ entry_at t 0
       → Outcome b e (0 ∷ 0 ∷ []) q (make x.0 x.1 (tree (heap b) 0) (tree (heap b) 0)) → Builds b e (entries_of t) q
   single_made x p M = both_made G before behind x (p ∙ ap (entry_at t) (omega arith)) M

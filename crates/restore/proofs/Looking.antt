@@ -3,8 +3,9 @@ use mathlib.Core.Path.{◌≡◌, refl, ap, sym, ◌∙◌}
 use mathlib.Core.Logic.{◌≢◌}
 use Prim.Native.Nat.{ℕ, zero, suc, ◌+◌, ◌-◌, ◌*◌, ◌/◌, ◌%◌, ◌≤◌, ◌<◌}
 use mathlib.Core.Option.{none, some}
-use mathlib.Core.List.{List}
-use lib.ListN.{length, take, drop, length-take, length-drop}
+use mathlib.Core.List.{List, ◌++◌}
+use lib.ListN.{length, take, drop, length-take, length-drop, length-append}
+use lib.Seq.{take-append_seam, drop-append_seam, drop-drop}
 use native.Mathlib.Omega.{arith}
 use native.Mathlib.Decide.{ℕ_discrete}
 use Rattle.model.specs.Tree.{Entry}
@@ -62,8 +63,20 @@ pub piece_entry : (t : List ℕ) (i at end : ℕ) → at ≡ 17 * i → end ≡ 
 unfolding entry_at
 piece_entry t i at end e f = ap (λ (cs : List ℕ). or_zeros (entry_of cs)) (piece_line t i at end e f)
 
-pub piece_long : (t : List ℕ) (at end : ℕ) → end ≡ at + 17 → end ≤ length t → length (take (end - at) (drop at t)) ≡ 17
-piece_long t at end e h = omega (arith, length-take (end - at) (drop at t), length-drop at t)
+-- a text from line i on, cut after 17 bytes: the first part is line i, and behind it the text goes on from the next line
+module _ (t : List ℕ) (i : ℕ) {r : List ℕ} (from : r ≡ drop (17 * i) t) where
+  module _ (x s : List ℕ) (cut : r ≡ x ++ s) (long : length x ≡ 17) where
+    pub cut_line : x ≡ line_at t i
+    cut_line = sym (take-append_seam x s) ∙ ap (λ n. take n (x ++ s)) long ∙ ap (take 17) (sym cut ∙ from)
+
+    pub cut_there : i < length t / 17
+    cut_there = let n = ap length (sym cut ∙ from) in omega (arith, n, long, length-append x s, length-drop (17 * i) t)
+
+    pub cut_next : s ≡ drop (17 * (i + 1)) t
+    cut_next = let n : 17 * (i + 1) ≡ 17 * i + 17 = omega arith in sym (drop-append_seam x s) ∙ ap (λ n. drop n (x ++ s)) long ∙ ap (drop 17) (sym cut ∙ from) ∙ drop-drop 17 (17 * i) t ∙ ap (λ n. drop n t) (omega arith)
+
+  pub cut_none : length r < 17 → length t / 17 ≤ i
+  cut_none lt = let n = ap length from in omega (arith, n, length-drop (17 * i) t)
 
 module _ {t : List ℕ} {i low : ℕ} (L : Looked t i low) where
   -- line i is the first faulty one
@@ -122,7 +135,3 @@ module _ {t : List ℕ} {i low : ℕ} (L : Looked t i low) where
       let short : length (line_at t m) < 17 = omega (arith, length-take 17 (drop (17 * m) t), length-drop (17 * m) t) in
       let e : fault_at t m ≡ LINE = fault_line t m (entry_open (line_at t m) (λ C. omega (arith, C.long))) in
       record { fine = λ z. absurd (omega arith); faulty = λ _. record { there = omega arith; is = sym e; faulty = λ z. omega arith; first = λ j lt. L.good j (omega arith) } }
-
-  -- nothing is left
-  pub finds_none : length t / 17 ≤ i → length t % 17 ≡ 0 → Judged t 0 0
-  finds_none h e = record { fine = λ z. (refl, λ j lt. L.good j (omega arith)); faulty = λ ne. absurd (ne refl) }

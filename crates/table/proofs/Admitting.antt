@@ -1,92 +1,91 @@
 -- The checks that every call begins with: what they refuse, and what a call may go on with.
-use mathlib.Core.Path.{◌≡◌, refl, ap, sym, ◌∙◌}
+use mathlib.Core.Path.{◌≡◌, refl, ap, sym, ◌∙◌, subst}
 use mathlib.Core.Logic.{◌≢◌}
-use Prim.Native.Nat.{ℕ, ◌≤◌, ◌<◌}
-use mathlib.Core.Bool.{Bool, true, false, ◌&&◌, not}
+use mathlib.Core.Bool.{Bool, true, false, true≢false}
+use Prim.Native.Nat.{ℕ, zero, suc, ◌≤◌, ◌<◌}
 use mathlib.Core.List.{List, [], ◌∷◌}
-use lib.Dec.{eqb, leb}
-use borrow.Author.Tests.{le-leb, lt-leb}
+use lib.ListN.{length, get_or}
 use native.Mathlib.Omega.{arith}
+use Rattle.std.specs.Prelude.{Result, Ok, Err, All, IsTrue, ◌↔◌}
 use Rattle.model.specs.Block.{SoundBlock}
-use Rattle.model.specs.Numbers.{VERSION}
 use Rattle.model.specs.Calls.{fails, passes, Answer, refusal, Versions, Checked, Admitted, Edit, Reads, Edits}
-use Rattle.model.proofs.calls.Checks.{check_map}
+use Rattle.model.specs.Numbers.{VERSION}
+use Rattle.answers.specs.declared.Refusal.{Refusal}
+use Rattle.answers.specs.Numbers.{number, code}
+use Rattle.answers.proofs.NotDone.{some_number}
+use Rattle.table.specs.Answers.{Source, Opened}
 
--- the block's check decides the first two
-pub checked_refused : (b vs : List ℕ) (n : ℕ) → Checked b n → n ≢ 0 → Admitted b vs n
-checked_refused b vs n C ne = check_map C (λ e. e) (λ C. check_map C (λ e. e) (λ e. absurd (ne e)))
-
-pub checked_versions : (b vs : List ℕ) → SoundBlock b → (Versions vs → ⊥) → Admitted b vs VERSION
-checked_versions b vs B unknown = passes B.shaped (passes B (fails unknown refl))
-
-pub checked_all : (b vs : List ℕ) → SoundBlock b → Versions vs → Admitted b vs 0
-checked_all b vs B known = passes B.shaped (passes B (passes known refl))
-
--- a version named again asks nothing more
-pub admitted_as : {b : List ℕ} {n : ℕ} (vs ws : List ℕ) → (Versions vs → Versions ws) → (Versions ws → Versions vs) → Admitted b vs n → Admitted b ws n
-admitted_as vs ws f g (fails p r) = fails p r
-admitted_as vs ws f g (passes p (fails q r)) = passes p (fails q r)
-admitted_as vs ws f g (passes p (passes q (fails u r))) = passes p (passes q (fails (λ w. u (g w)) r))
-admitted_as vs ws f g (passes p (passes q (passes u r))) = passes p (passes q (passes (f u) r))
-
-pub one-version : {b : List ℕ} {n : ℕ} (v : ℕ) → Admitted b (v ∷ v ∷ v ∷ []) n → Admitted b (v ∷ []) n
+-- the versions of a list, one by one
+pub known_all : (vs : List ℕ) → All (λ v. v < 16) vs → Versions vs
 unfolding Versions
-one-version v A = admitted_as (v ∷ v ∷ v ∷ []) (v ∷ []) (λ w. (w.0, tt)) (λ w. (w.0, (w.0, (w.0, tt)))) A
+known_all [] f = tt
+known_all (v ∷ vs) f = (f 0 0 (omega arith), known_all vs (λ k d lt. f (suc k) d (omega (arith, lt))))
 
-pub two_versions : {b : List ℕ} {n : ℕ} (v w : ℕ) → Admitted b (v ∷ w ∷ w ∷ []) n → Admitted b (v ∷ w ∷ []) n
+pub all_known : (vs : List ℕ) → Versions vs → All (λ v. v < 16) vs
 unfolding Versions
-two_versions v w A = admitted_as (v ∷ w ∷ w ∷ []) (v ∷ w ∷ []) (λ u. (u.0, (u.1.0, tt))) (λ u. (u.0, (u.1.0, (u.1.0, tt)))) A
+all_known [] u k d lt = absurd (omega (arith, lt))
+all_known (v ∷ vs) u zero d lt = u.0
+all_known (v ∷ vs) u (suc k) d lt = all_known vs u.1 k d (omega (arith, lt))
+
+pub known_first : {v : ℕ} (vs : List ℕ) → Versions (v ∷ vs) → v < 16
+unfolding Versions
+known_first vs u = u.0
+
+pub known_second : (v : ℕ) {w : ℕ} (vs : List ℕ) → Versions (v ∷ w ∷ vs) → w < 16
+unfolding Versions
+known_second v vs u = u.1.0
+
+pub known_third : (v w : ℕ) {x : ℕ} (vs : List ℕ) → Versions (v ∷ w ∷ x ∷ vs) → x < 16
+unfolding Versions
+known_third v w vs u = u.1.1.0
+
+-- the block's check, as the code has it
+sound_checked : {b : List ℕ} → Checked b 0 → SoundBlock b
+sound_checked (fails p r) = let e : ◌≡◌ {A = ℕ} 0 1 = r in absurd (omega arith)
+sound_checked (passes p (fails q r)) = let e : ◌≡◌ {A = ℕ} 0 2 = r in absurd (omega arith)
+sound_checked (passes p (passes q r)) = q
+
+pub checked : {A : Type 0} {b : List ℕ} {r : Result A Refusal} {x : A} → r ≡ Ok x → Checked b (code r) → SoundBlock b
+checked {b = b} e C = sound_checked (subst (λ q. Checked b (code q)) e C)
+
+-- the versions as they are tested
+pub versions_known : {b : List ℕ} (vs : List ℕ) {t : Bool} → SoundBlock b → (IsTrue t ↔ All (λ v. v < 16) vs) → t ≡ true → Admitted b vs 0
+versions_known vs B T e = passes B.shaped (passes B (passes (known_all vs (T.0 e)) refl))
+
+pub version_unknown : {b : List ℕ} (vs : List ℕ) {t : Bool} → SoundBlock b → (IsTrue t ↔ All (λ v. v < 16) vs) → t ≡ false → Admitted b vs VERSION
+version_unknown vs B T e = passes B.shaped (passes B (fails (λ u. true≢false (sym (T.1 (all_known vs u)) ∙ e)) refl))
 
 -- where they pass, the block is sound and the versions are known
-pub record Admission (b : List ℕ) (v w x : ℕ) : Type 0 where
+pub record Admission (b vs : List ℕ) : Type 0 where
   pub sound : SoundBlock b
-  pub first : v < 16
-  pub second : w < 16
-  pub third : x < 16
+  pub versions : Versions vs
 
-pub admission : {b : List ℕ} {n : ℕ} (v w x : ℕ) → Admitted b (v ∷ w ∷ x ∷ []) n → n ≡ 0 → Admission b v w x
-unfolding Versions
-admission v w x (fails p r) z = let e : ◌≡◌ {A = ℕ} 1 0 = sym r ∙ z in absurd (omega arith)
-admission v w x (passes p (fails q r)) z = let e : ◌≡◌ {A = ℕ} 2 0 = sym r ∙ z in absurd (omega arith)
-admission v w x (passes p (passes q (fails u r))) z = let e : ◌≡◌ {A = ℕ} 3 0 = sym r ∙ z in absurd (omega arith)
-admission v w x (passes p (passes q (passes u r))) z = record { sound = q; first = u.0; second = u.1.0; third = u.1.1.0 }
+passed : {b vs : List ℕ} → Admitted b vs 0 → Admission b vs
+passed (fails p r) = let e : ◌≡◌ {A = ℕ} 0 1 = r in absurd (omega arith)
+passed (passes p (fails q r)) = let e : ◌≡◌ {A = ℕ} 0 2 = r in absurd (omega arith)
+passed (passes p (passes q (fails u r))) = let e : ◌≡◌ {A = ℕ} 0 3 = r in absurd (omega arith)
+passed (passes p (passes q (passes u r))) = record { sound = q; versions = u }
 
--- the versions that a call names
-pub one_known : {v : ℕ} → v < 16 → Versions (v ∷ [])
-unfolding Versions
-one_known p = (p, tt)
-
-pub two_known : {v w : ℕ} → v < 16 → w < 16 → Versions (v ∷ w ∷ [])
-unfolding Versions
-two_known p q = (p, (q, tt))
-
-pub three_known : {v w x : ℕ} → v < 16 → w < 16 → x < 16 → Versions (v ∷ w ∷ x ∷ [])
-unfolding Versions
-three_known p q r = (p, (q, (r, tt)))
+pub admission : {A : Type 0} {b vs : List ℕ} {r : Result A Refusal} {x : A} → r ≡ Ok x → Admitted b vs (code r) → Admission b vs
+admission {b = b} {vs = vs} e C = passed (subst (λ q. Admitted b vs (code q)) e C)
 
 -- where they fail, the call answers their number and changes nothing
-pub admitted_read : {b : List ℕ} {n : ℕ} (vs : List ℕ) (answer a : Answer) → Admitted b vs n → n ≢ 0 → a ≡ refusal n → Reads b vs answer a
-admitted_read vs answer a (fails p r) ne e = fails p (e ∙ ap refusal r)
-admitted_read vs answer a (passes p (fails q r)) ne e = passes p (fails q (e ∙ ap refusal r))
-admitted_read vs answer a (passes p (passes q (fails u r))) ne e = passes p (passes q (fails u (e ∙ ap refusal r)))
-admitted_read vs answer a (passes p (passes q (passes u r))) ne e = absurd (ne r)
+pub admitted_read : {b : List ℕ} (vs : List ℕ) {answer : Answer} (r : Refusal) → Admitted b vs (number r) → Reads b vs answer (refusal (number r))
+admitted_read vs r (fails p e) = fails p (ap refusal e)
+admitted_read vs r (passes p (fails q e)) = passes p (fails q (ap refusal e))
+admitted_read vs r (passes p (passes q (fails u e))) = passes p (passes q (fails u (ap refusal e)))
+admitted_read vs r (passes p (passes q (passes u e))) = absurd (some_number r e)
 
--- where they pass, a call that only reads gives its answer
-pub reads_done : {b : List ℕ} {answer a : Answer} (vs : List ℕ) → SoundBlock b → Versions vs → a ≡ answer → Reads b vs answer a
-reads_done vs B u e = passes B.shaped (passes B (passes u e))
+pub admitted_edit : {b : List ℕ} (e : Edit) (r : Refusal) → Admitted b e.versions (number r) → Edits b b e (refusal (number r))
+admitted_edit e r (fails p q) = fails p (ap refusal q, refl)
+admitted_edit e r (passes p (fails s q)) = passes p (fails s (ap refusal q, refl))
+admitted_edit e r (passes p (passes s (fails u q))) = passes p (passes s (fails u (ap refusal q, refl)))
+admitted_edit e r (passes p (passes s (passes u q))) = absurd (some_number r q)
 
-pub admitted_edit : {b : List ℕ} {n : ℕ} (e : Edit) (a : Answer) → Admitted b e.versions n → n ≢ 0 → a ≡ refusal n → Edits b b e a
-admitted_edit e a (fails p r) ne q = fails p (q ∙ ap refusal r, refl)
-admitted_edit e a (passes p (fails s r)) ne q = passes p (fails s (q ∙ ap refusal r, refl))
-admitted_edit e a (passes p (passes s (fails u r))) ne q = passes p (passes s (fails u (q ∙ ap refusal r, refl)))
-admitted_edit e a (passes p (passes s (passes u r))) ne q = absurd (ne r)
+-- a version that was found to be there
+pub opened : {b : List ℕ} {v x : ℕ} {r : Result ℕ Refusal} → r ≡ Ok x → Opened b v r → Source b v x
+opened {b = b} {v = v} e C = subst (Opened b v) e C
 
--- the rule numbers of difference, test by test
-pub rule_above : (rule : ℕ) (cancel : Bool) → 3 < rule → false ≡ (leb rule 3 && not (cancel && eqb rule 2))
-rule_above rule cancel p = rw (lt-leb rule 3 p)
-
-pub rule_cancels : (rule : ℕ) (cancel : Bool) → rule ≤ 3 → cancel ≡ true → not (eqb rule 2) ≡ (leb rule 3 && not (cancel && eqb rule 2))
-rule_cancels rule cancel p c = rw (le-leb rule 3 p, c)
-
-pub rule_plain : (rule : ℕ) (cancel : Bool) → rule ≤ 3 → cancel ≡ false → true ≡ (leb rule 3 && not (cancel && eqb rule 2))
-rule_plain rule cancel p c = rw (le-leb rule 3 p, c)
+pub source_done : {b : List ℕ} {v r : ℕ} {answer a : Answer} → Source b v r → a ≡ answer → Reads b (v ∷ []) answer a
+unfolding Versions
+source_done S e = passes S.sound.shaped (passes S.sound (passes (S.known, tt) e))

@@ -3,9 +3,10 @@ use mathlib.Core.Path.{◌≡◌, refl, ap, sym, ◌∙◌}
 use mathlib.Core.Logic.{◌≢◌}
 use Prim.Native.Nat.{ℕ, zero, suc, ◌+◌, ◌≤◌, ◌<◌}
 use mathlib.Core.Bool.{Bool, true, false, not, true≢false}
-use mathlib.Core.Option.{Option}
+use mathlib.Core.Option as maybe
 use mathlib.Core.List.{List, [], ◌∷◌}
 use native.Mathlib.Omega.{arith}
+use Rattle.std.specs.Prelude.{Option, Some, None, Result, Ok, Err, IsErrAnd}
 use Rattle.model.specs.Tree.{size, entries, lookup, Ordered}
 use Rattle.model.specs.Sums.{minutes, those, within, sum_below}
 use Rattle.model.specs.Heap.{Named, Linked, size_at, sum_at, tree, version, supply}
@@ -18,17 +19,13 @@ use Rattle.model.proofs.block.Sums.{total-minutes}
 use Rattle.tree.specs.Gathered.{Summable}
 use Rattle.model.proofs.running.Pieces.{AllNamed}
 use Rattle.model.proofs.block.Versions.{version_named, version_small, version_ordered}
-use Rattle.block.specs.declared.Made.{Made}
-use Rattle.block.specs.declared.Made.TheVariants.{At, Full}
+use Rattle.answers.specs.declared.Refusal.{Refusal}
+use Rattle.answers.specs.Numbers.{number, code}
+use Rattle.answers.specs.Answers.{found_of, done_of}
+use Rattle.answers.proofs.NotDone.{some_number}
 use Rattle.block.specs.Outcome.{Stands, Outcome, Settled}
 use Rattle.block.proofs.EntryToExit.{start, held, carried, refused}
-use Rattle.table.specs.Answers.{ended}
-
--- a version that a call reads, and its root
-pub record Source (b : List ℕ) (v r : ℕ) : Type 0 where
-  pub sound : SoundBlock b
-  pub known : v < 16
-  pub is : r ≡ (heap b).root v
+use Rattle.table.specs.Answers.{Source, ended}
 
 module _ {b : List ℕ} {v r : ℕ} (S : Source b v r) where
   pub source_named : Named (heap b) r
@@ -51,7 +48,7 @@ module _ {b : List ℕ} {v r : ℕ} (S : Source b v r) where
   rule_asks = (start S.sound (r ∷ []) source_pieces, source_named, omega (arith, source_small))
 
   -- what is found from the root is the version's
-  pub source_found : {o : Option ℕ} (key : ℕ) → o ≡ lookup (tree (heap b) r) key → o ≡ lookup (version (heap b) v) key
+  pub source_found : {o : maybe.Option ℕ} (key : ℕ) → o ≡ lookup (tree (heap b) r) key → o ≡ lookup (version (heap b) v) key
   source_found key e = e ∙ ap (λ x. lookup (tree (heap b) x) key) S.is
 
   pub source_size : size_at (heap b) r ≡ size (version (heap b) v)
@@ -88,10 +85,22 @@ pub ended_refused : (n : ℕ) (a : Answer) → n ≢ 0 → refusal n ≡ ended n
 ended_refused zero a ne = absurd (ne refl)
 ended_refused (suc n) a ne = refl
 
--- a call without fields answers its number alone
-pub plain_ended : (n : ℕ) → refusal n ≡ ended n (giving 0)
-plain_ended zero = refl
-plain_ended (suc n) = refl
+pub err_ended : (r : Refusal) (a : Answer) → refusal (number r) ≡ ended (number r) a
+err_ended r a = ended_refused (number r) a (some_number r)
+
+-- a call without fields answers that it is done
+pub done_ended : {A : Type 0} (r : Result A Refusal) → done_of r ≡ ended (code r) (giving 0)
+done_ended (Ok x) = refl
+done_ended (Err r) = err_ended r (giving 0)
+
+-- an edit that answers what was found: as it ends, it is done or refused
+pub ok_told : {A : Type 0} {q : Result A Refusal} {x : A} {a b : Answer} → q ≡ Ok x → a ≡ b → a ≡ ended (code q) b
+ok_told {b = b} e p = p ∙ ap (λ q. ended (code q) b) (sym e)
+
+pub err_told : {A : Type 0} {q : Result A Refusal} (r : Result (Option ℕ) Refusal) {e : Refusal} (a : Answer) → q ≡ Err e → IsErrAnd r (λ f. f ≡ e)
+    → found_of r ≡ ended (code q) a
+err_told (Ok x) a p t = absurd t
+err_told (Err f) {e = e} a p t = rw (p, t) (err_ended e a)
 
 -- an edit whose checks have passed
 pub record Begun (b : List ℕ) (e : Edit) : Type 0 where
@@ -102,7 +111,7 @@ pub record Begun (b : List ℕ) (e : Edit) : Type 0 where
   pub fits : e.fits ≡ true
 
 -- and whose rule has run, from b to c, of pieces that stood there, making nodes from number `low` on
-pub record Run (b c : List ℕ) (low : ℕ) (made : Made) (e : Edit) : Type 0 where
+pub record Run (b c : List ℕ) (low : ℕ) (made : Option ℕ) (e : Edit) : Type 0 where
   pub begun : Begun b e
   pub low_is : (1 ≤ low) × FullBelow (heap b) low
   pub pieces : List ℕ
@@ -110,7 +119,7 @@ pub record Run (b c : List ℕ) (low : ℕ) (made : Made) (e : Edit) : Type 0 wh
   pub out : Outcome b c pieces made e.rule
   pub ordered : Ordered (e.rule (supply (heap b))).0
 
-module _ {b c : List ℕ} {low : ℕ} {made : Made} {e : Edit} (R : Run b c low made e) where
+module _ {b c : List ℕ} {low : ℕ} {made : Option ℕ} {e : Edit} (R : Run b c low made e) where
   -- what the end asks of the block and of what was made
   pub settle_asks : Running c × Stands (heap c) made × (1 ≤ low) × HeldBelow (heap c) low
   settle_asks = (R.out.came.running, R.out.named, R.low_is.0, held R.begun.sound R.pieces R.named R.low_is.1 R.out)
@@ -119,35 +128,26 @@ module _ {b c : List ℕ} {low : ℕ} {made : Made} {e : Edit} (R : Run b c low 
   pub settled : {after : List ℕ} {a : Answer} (n : ℕ) → Settled c after e.dst made n → a ≡ ended n e.answer → Words b → Words after → Edits b after e a
   settled {after} {a} n S q wb wa = go made R.out S
     where
-      go : (m : Made) → Outcome b c R.pieces m e.rule → Settled c after e.dst m n → Edits b after e a
-      go (At k) O (z, F) =
+      go : (m : Option ℕ) → Outcome b c R.pieces m e.rule → Settled c after e.dst m n → Edits b after e a
+      go (Some k) O (z, F) =
           let B = R.begun in
           let C = carried B.sound R.pieces R.named O R.ordered F in
           passes B.sound.shaped (passes B.sound (passes B.versions (passes B.legal (passes B.positive (passes B.fits (passes C.enough (q ∙ ap (λ x. ended x e.answer) z, C.edited)))))))
-      go Full O (z, W) =
+      go None O (z, W) =
           let B = R.begun in
           let X = refused B.sound R.pieces R.named O W wb wa in
           passes B.sound.shaped (passes B.sound (passes B.versions (passes B.legal (passes B.positive (passes B.fits (fails (λ f. true≢false (sym X.short ∙ f)) (q ∙ ap (λ x. ended x e.answer) z, X.same)))))))
-
--- what the test of a rule number tells
-pub rule_known : (r : Bool) {legal : Bool} → r ≡ legal → not r ≡ false → legal ≡ true
-rule_known true e t = sym e
-rule_known false e t = absurd (true≢false t)
-
-pub rule_unknown : (r : Bool) {legal : Bool} → r ≡ legal → not r ≡ true → legal ≡ false
-rule_unknown true e t = absurd (true≢false (sym t))
-rule_unknown false e t = sym e
 
 -- a rule number that is not known
 pub rule_refused : {b : List ℕ} {a : Answer} (e : Edit) → SoundBlock b → Versions e.versions → e.legal ≡ false → a ≡ refusal RULE → Edits b b e a
 rule_refused e B u l q = passes B.shaped (passes B (passes u (fails (λ t. true≢false (sym t ∙ l)) (q, refl))))
 
 -- a value of 0
-pub zero-refused : {b : List ℕ} {a : Answer} (e : Edit) → SoundBlock b → Versions e.versions → e.legal ≡ true → e.positive ≡ false
+pub zero_refused : {b : List ℕ} {a : Answer} (e : Edit) → SoundBlock b → Versions e.versions → e.legal ≡ true → e.positive ≡ false
     → a ≡ refusal ZERO → Edits b b e a
-zero-refused e B u l o q = passes B.shaped (passes B (passes u (passes l (fails (λ t. true≢false (sym t ∙ o)) (q, refl)))))
+zero_refused e B u l o q = passes B.shaped (passes B (passes u (passes l (fails (λ t. true≢false (sym t ∙ o)) (q, refl)))))
 
 -- a sum that does not fit
-pub sum-refused : {b : List ℕ} {a : Answer} (e : Edit) → SoundBlock b → Versions e.versions → e.legal ≡ true → e.positive ≡ true
+pub sum_refused : {b : List ℕ} {a : Answer} (e : Edit) → SoundBlock b → Versions e.versions → e.legal ≡ true → e.positive ≡ true
     → e.fits ≡ false → a ≡ refusal SUM → Edits b b e a
-sum-refused e B u l o f q = passes B.shaped (passes B (passes u (passes l (passes o (fails (λ t. true≢false (sym t ∙ f)) (q, refl))))))
+sum_refused e B u l o f q = passes B.shaped (passes B (passes u (passes l (passes o (fails (λ t. true≢false (sym t ∙ f)) (q, refl))))))

@@ -1,47 +1,35 @@
 // The checks that calls begin with.
-ghost use Rattle.std.specs.Prelude.{◌≡◌, ◌&&◌, not, [], ◌∷◌, eqb, leb};
+ghost use Rattle.std.specs.Prelude.{◌<◌, ◌↔◌, IsTrue, All};
 ghost use Rattle.model.specs.Calls.{Admitted};
+ghost use Rattle.answers.specs.Numbers.{code};
+ghost use Rattle.table.specs.Answers.{Opened};
 
+use answers::Refusal;
 use audit::check;
+use block::root;
 
-const VERSION: u32 = 3;
-
-// The block, then its versions. A call of fewer versions names one again.
-pub fn admit(b: &[u32], v: u32, w: u32, x: u32) -> u32
-    ensures { Admitted b.now (v ∷ w ∷ x ∷ []) result }
+// Whether a block has versions of these numbers.
+fn known(versions: &[u32]) -> bool
+    ensures { IsTrue result ↔ All (λ v. v < 16) versions.now }
 {
-    let n = check(b);
-    if n != 0 {
-        return n;
-    }
-    if 15 < v {
-        return VERSION;
-    }
-    if 15 < w {
-        return VERSION;
-    }
-    if 15 < x {
-        return VERSION;
-    }
-    0
+    versions.iter().all(|v| *v < 16)
 }
 
-// Whether union has a rule of this number.
-pub fn union_rule(rule: u32) -> bool
-    ensures { result ≡ leb rule 4 }
+// The block, then its versions.
+pub fn admit(b: &[u32], versions: &[u32]) -> Result<(), Refusal>
+    ensures { Admitted b.now versions.now (code result) }
 {
-    rule <= 4
+    check(b)?;
+    if !known(versions) {
+        return Err(Refusal::Version);
+    }
+    Ok(())
 }
 
-// Whether difference has a rule of this number and may cancel with it: under rule 2 equal keys stay, so cancelling would lose them.
-pub fn difference_rule(rule: u32, cancel: bool) -> bool
-    ensures { result ≡ (leb rule 3 && not (cancel && eqb rule 2)) }
+// The root of a version that is read.
+pub fn version_root(b: &[u32], version: u32) -> Result<u32, Refusal>
+    ensures { Opened b.now version result }
 {
-    if 3 < rule {
-        return false;
-    }
-    if cancel {
-        return rule != 2;
-    }
-    true
+    admit(b, &[version])?;
+    Ok(root(b, version))
 }

@@ -3,7 +3,8 @@ use native.Mathlib.Omega.{arith}
 use Rattle.model.proofs.block.Versions.{version_ordered}
 use Rattle.block.proofs.EntryToExit.{Run, run_asks, run_ends}
 use Rattle.frame.specs.Fields.{fields_of}
-use Rattle.table.proofs.Settling.{Source, source_pieces, rule_asks}
+use Rattle.table.specs.Answers.{Source}
+use Rattle.table.proofs.Settling.{source_pieces, rule_asks}
 use Rattle.link.specs.Answers.{rule_of}
 use Rattle.link.proofs.Changes.{rule_ordered, rule_made}
 use Rattle.link.proofs.edit.Goals as goal
@@ -36,4 +37,4 @@ settle-requires c =
 
 pub returns : goal.returns
 returns c =
-    run_ends (run (goal.at.returns c).After-edit-made) c.settle.ensures (λ i. omega (arith, c.slice_known-1.given i)) (λ i. omega (arith, c.slice_known-3-1.given i))
+    run_ends (run (goal.at.returns c).After-edit-made) c.settle.ensures (λ i. omega (arith, c.slice_known-1.given i)) (λ i. omega (arith, c.type_inv.b i))

@@ -1,9 +1,8 @@
 -- No line makes nothing. One line is the middle of a level whose sides are empty.
 use native.Mathlib.Omega.{arith}
-use mathlib.Core.Path.{refl, sym, ◌∙◌}
+use mathlib.Core.Path.{refl, ◌∙◌}
 use Prim.Native.Nat.{◌/◌}
 use lib.ListN.{length}
-use lib.Seq.{length-take-le}
 use Rattle.model.proofs.link.Texts.{entries-length}
 use Rattle.restore.specs.Answers.{pair}
 use Rattle.restore.proofs.Looking.{piece_entry}
@@ -19,12 +18,6 @@ pub returns-then-text-lt17 : goal.returns-then-text-lt17
 returns-then-text-lt17 c =
     let t = c.args.text.now in
     (builds_none _ _ c.requires.0.0 (omega (arith, entries-length t 0 (length t / 17), c.if-text-lt17.true)), c.requires.1)
-
-pub slice_bounds-entry_of-end : goal.slice_bounds-entry_of-end
-slice_bounds-entry_of-end c = sym (length-take-le 17 c.args.text.now (omega (arith, c.if-text-lt17.false)))
-
-pub entry_of-e-requires : goal.entry_of-e-requires
-entry_of-e-requires c = length-take-le 17 c.args.text.now (omega (arith, c.if-text-lt17.false))
 
 pub make-requires : goal.make-requires
 make-requires c =

@@ -1,14 +1,13 @@
 -- Zeros in every word are a kiosk of no entries.
-use mathlib.Core.Path.{refl}
-use Rattle.model.specs.Calls.{fails, passes}
-use Rattle.model.proofs.maps.Tells.{tells_yes, tells_no}
-use Rattle.kiosk.proofs.Moving.{cleared}
+use mathlib.Core.Path.{◌≡◌, refl, ap, ◌∙◌}
+use lib.ListN.{length, replicate}
+use Rattle.model.specs.Calls.{passes}
+use Rattle.model.specs.Kiosk.{empty_kiosk}
+use Rattle.kiosk.proofs.Testing.{says_yes}
 use Rattle.kiosk.proofs.edits.fresh.Goals as goal
 
-pub returns-then-not-shape : goal.returns-then-not-shape
-returns-then-not-shape c = fails (tells_no c.shape.result c.shape.ensures c.if-not-shape.true-raw) (refl, refl)
-
 pub returns : goal.returns
+unfolding empty_kiosk
 returns c =
-    let long = tells_yes c.shape.result c.shape.ensures c.if-not-shape.false-raw in
-    passes long (refl, cleared c.args.k.now long c.clear.ensures)
+    let long : length c.args.k.now ≡ 129 = says_yes c.shape.result c.shape.ensures c.if-not-shape.false in
+    passes long (refl, c.fill.ensures.after (λ y e. e) ∙ ap (λ n. replicate n 0) long)

@@ -2,7 +2,6 @@
 use mathlib.Core.Path.{◌≡◌}
 use Prim.Native.Nat.{◌<◌}
 use Rattle.model.specs.Kiosk.{count, key_at}
-use lib.ListN.{length-set}
 use native.Mathlib.Omega.{arith}
 use Rattle.kiosk.proofs.Testing.{says_yes, says_no}
 use Rattle.kiosk.proofs.Moving.{putting_over, putting_full, putting_new}
@@ -15,10 +14,6 @@ there c = says_yes c.has.result c.has.ensures c.if-has.true
 lacks : (c : Else-has) → let a = c.args in (a.i < count a.k.now) × (key_at a.k.now a.i ≡ a.key) → ⊥
 lacks c = says_no c.has.result c.has.ensures c.if-has.false
 
-pub bounds-k-i : goal.bounds-k-i
-bounds-k-i c =
-    omega (arith, (there c).0, c.requires.0.long, c.requires.0.few)
-
 pub returns-then-has : goal.returns-then-has
 returns-then-has c =
     putting_over c.requires.0 c.requires.1 _ (there c)
@@ -26,12 +21,6 @@ returns-then-has c =
 pub returns-then-n-ge64 : goal.returns-then-n-ge64
 returns-then-n-ge64 c =
     putting_full c.requires.0 c.requires.1 _ (lacks (goal.at.returns-then-n-ge64 c).Else-has) c.if-n-ge64.true
-
-pub bounds-k-i-3 : goal.bounds-k-i-3
-bounds-k-i-3 c = simp length-set (omega (arith, c.open_up.ensures.long, c.requires.1.within, c.if-n-ge64.false))
-
-pub bounds-k-0-2 : goal.bounds-k-0-2
-bounds-k-0-2 c = simp length-set (omega (arith, c.open_up.ensures.long))
 
 pub returns : goal.returns
 returns c =

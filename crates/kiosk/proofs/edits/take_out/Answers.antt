@@ -2,29 +2,20 @@
 use mathlib.Core.Path.{◌≡◌}
 use Prim.Native.Nat.{◌<◌}
 use Rattle.model.specs.Kiosk.{count, key_at}
-use native.Mathlib.Omega.{arith}
-use Rattle.model.proofs.maps.Tells.{tells_yes, tells_no}
+use Rattle.kiosk.proofs.Testing.{says_yes, says_no}
 use Rattle.kiosk.proofs.Moving.{take-over, take_none}
 use Rattle.kiosk.proofs.edits.take_out.Goals as goal
 use Rattle.kiosk.proofs.edits.take_out.Goals.{Else-not-has, Then-not-has}
 
 there : (c : Else-not-has) → let a = c.args in (a.i < count a.k.now) × (key_at a.k.now a.i ≡ a.key)
-there c = tells_yes c.has.result c.has.ensures c.if-not-has.false-raw
+there c = says_yes c.has.result c.has.ensures c.if-not-has.false
 
 lacks : (c : Then-not-has) → let a = c.args in (a.i < count a.k.now) × (key_at a.k.now a.i ≡ a.key) → ⊥
-lacks c = tells_no c.has.result c.has.ensures c.if-not-has.true-raw
+lacks c = says_no c.has.result c.has.ensures c.if-not-has.true
 
 pub returns-then-not-has : goal.returns-then-not-has
 returns-then-not-has c =
     take_none c.requires.0 c.requires.1 (lacks c)
-
-pub close_up-requires : goal.close_up-requires
-close_up-requires c =
-    let S = c.requires.0 in
-    (S.long, S.few, (there (goal.at.close_up-requires c).Else-not-has).0)
-
-pub overflow_sub-k : goal.overflow_sub-k
-overflow_sub-k c = omega (arith, (there (goal.at.overflow_sub-k c).Else-not-has).0)
 
 pub returns : goal.returns
 returns c =

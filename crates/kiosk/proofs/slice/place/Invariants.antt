@@ -1,10 +1,7 @@
-use Prim.Native.Nat.{ℕ, ◌-◌, ◌≤◌, ◌<◌}
+-- Every key before pair i is below the key; the first that is not ends the search.
+use Prim.Native.Nat.{ℕ, ◌<◌}
 use Rattle.model.specs.Kiosk.{key_at}
 use Rattle.kiosk.proofs.slice.place.Given as goal
 
--- Every key before pair i is below the key; the first that is not ends the search.
 abbrev pub invariant-loop-i : goal.invariant-loop-i
-invariant-loop-i l = (l.i ≤ l.n) × ((t : ℕ) → t < l.i → key_at l.k t < l.key)
-
-abbrev pub decreases-loop-i : goal.decreases-loop-i
-decreases-loop-i l = l.n - l.i
+invariant-loop-i l = (t : ℕ) → t < l.i → key_at l.k t < l.key

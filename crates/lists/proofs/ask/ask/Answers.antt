@@ -1,32 +1,16 @@
 -- The inbox is checked first, so a refusal writes nothing; then the runs are counted, and with none the one line is written.
-use mathlib.Core.Path.{refl}
-use Rattle.model.specs.Inbox.{SoundInbox}
-use Rattle.lists.specs.Reports.{report_of}
-use Rattle.lists.proofs.Asking.{ask_refused, inbox_sound, ask_one, ask_runs}
+use native.Mathlib.Omega.{arith}
+use mathlib.Core.Path.{◌≡◌, refl}
+use Rattle.std.proofs.Common.{rules}
+use mathlib.Core.List.{[], ◌∷◌}
+use Rattle.frame.specs.Fields.{fields_of}
+use Rattle.lists.proofs.Asking.{inbox_sound, ask_one, ask_runs}
 use Rattle.lists.proofs.ask.ask.Goals as goal
-use Rattle.lists.proofs.ask.ask.Goals.{Else-n-ne0}
-
-sound : (c : Else-n-ne0) → SoundInbox c.args.x.now
-sound c = inbox_sound c.check-n.ensures c.if-n-ne0.false
-
-pub returns-then-n-ne0 : goal.returns-then-n-ne0
-returns-then-n-ne0 c =
-    let a = c.args in
-    ask_refused a.start (report_of c.refusal.result) c.check-n.ensures c.if-n-ne0.true c.refusal.ensures
-
-pub run_count-count-requires : goal.run_count-count-requires
-run_count-count-requires c = sound c
-
-pub alone-requires : goal.alone-requires
-alone-requires c = sound (goal.at.alone-requires c).Else-n-ne0
 
 pub returns-then-count-eq0 : goal.returns-then-count-eq0
 returns-then-count-eq0 c =
-    ask_one (sound (goal.at.returns-then-count-eq0 c).Else-n-ne0) c.args.start _ c.run_count-count.ensures c.if-count-eq0.true c.alone.ensures c.write_one-written.ensures refl
-
-pub write_runs-written-requires : goal.write_runs-written-requires
-write_runs-written-requires c = (sound (goal.at.write_runs-written-requires c).Else-n-ne0, c.run_count-count.ensures)
+    let wrote = c.write_lines.ensures (fields_of c.alone-only.result ∷ []) (refl, λ i f h p. let z : i ≡ 0 = omega arith in let is : f ≡ c.alone-only.result = search rules in rw (z, is)) in
+    ask_one (inbox_sound c.in_ok-check.was c.check.ensures) c.args.start c.run_count-count.ensures c.if-count-eq0.true c.alone-only.ensures wrote
 
 pub returns : goal.returns
-returns c =
-    ask_runs (sound (goal.at.returns c).Else-n-ne0) c.args.start _ c.run_count-count.ensures c.if-count-eq0.false c.write_runs-written.ensures refl
+returns c = ask_runs (inbox_sound c.in_ok-check.was c.check.ensures) c.args.start c.run_count-count.ensures c.if-count-eq0.false c.write_runs.ensures

@@ -1,21 +1,16 @@
 -- The words that list wrote stand at the front of the output, so its leading part is the listing's.
-use native.Mathlib.Omega.{arith}
-use mathlib.Core.Path.{sym}
-use lib.Seq.{length-take-le}
+use Rattle.std.specs.Prelude.{Ok, Err}
+use Rattle.answers.specs.Answers.{report_of}
 use Rattle.model.specs.Lists.{listed}
-use Rattle.lists.specs.Reports.{report_of}
-use Rattle.lists.proofs.Reporting.{written-fits, lists_shows}
+use Rattle.lists.proofs.Reporting.{lists_shows}
 use Rattle.lists.proofs.entries.listing.Goals as goal
-
-pub slice_bounds-result-end : goal.slice_bounds-result-end
-slice_bounds-result-end c =
-    let l = c.list-r in
-    let s = c.args in
-    let fits = written-fits s.start (listed s.b.now s.left s.right) (report_of l.result) l.ensures in
-    sym (length-take-le c.wide-n.result l.new.out (omega (arith, fits, c.wide-n.ensures)))
+use Rattle.lists.proofs.entries.listing.Goals.{in-Ok, in-Err}
 
 pub returns : goal.returns
 returns c =
-    let l = c.list-r in
     let s = c.args in
-    rw c.wide-n.ensures (lists_shows s.start (listed s.b.now s.left s.right) (report_of l.result) l.ensures)
+    let p = listed s.b.now s.left s.right in
+    elim c.match-list.branch [
+      | in-Ok w ↦ rw (w.number-is, w.total-is, w.written-is) (lists_shows s.start p (report_of (Ok w.in-Ok.report)) (rw w.in-Ok.is at c.list.ensures))
+      | in-Err w ↦ rw (w.number-is, w.number.ensures, w.total-is, w.written-is) (lists_shows s.start p (report_of (Err w.in-Err.refusal)) (rw w.in-Err.is at c.list.ensures))
+    ]

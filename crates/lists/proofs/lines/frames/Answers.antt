@@ -1,40 +1,31 @@
--- The checks come first and both walks before the first line, so a refusal writes nothing; then the lines of the collected changes are written.
+-- The checks and both walks come first, so a refusal writes nothing; then the lines of the collected changes are written.
 use native.Mathlib.Omega.{arith}
-use mathlib.Core.Path.{refl, ap}
-use Rattle.model.specs.Lists.{framed}
-use Rattle.table.proofs.Admitting.{two_versions, Admission, admission}
-use Rattle.lists.specs.Reports.{report_of}
-use Rattle.lists.proofs.Reporting.{lists_refused}
-use Rattle.lists.proofs.Sending.{Gathered, gathered_deep, gathered_few, gathered_done}
+use Prim.Native.Nat.{◌<◌}
+use Rattle.std.proofs.Common.{rules}
+use Rattle.frame.specs.Fields.{fields_of}
+use Rattle.lists.specs.Changes.{at_least_one, frame_in}
+use mathlib.Core.Path.{◌≡◌, refl, sym, ◌∙◌}
+use Rattle.table.proofs.Admitting.{admission, known_first, known_second}
+use Rattle.lists.proofs.Framing.{one_few, frames_long, frame_in_lem}
+use Rattle.lists.proofs.Sending.{Gathered, gathered_few, gathered_done}
 use Rattle.lists.proofs.lines.frames.Goals as goal
-use Rattle.lists.proofs.lines.frames.Goals.{After-collect, Else-n-ne0}
-
-admitted : (c : Else-n-ne0) → Admission c.args.b.now c.args.from c.args.to c.args.to
-admitted c = admission _ _ _ c.admit-n.ensures c.if-n-ne0.false
+use Rattle.lists.proofs.lines.frames.Goals.{After-collect}
 
 gathered : (c : After-collect)
-    → let s = c.args in Gathered s.b.now s.from s.to c.collect.new.changes c.collect.result
-gathered c = record { admitted = admission _ _ _ c.admit-n.ensures c.if-n-ne0.false; is = c.collect.ensures }
-
-pub returns-then-n-ne0 : goal.returns-then-n-ne0
-returns-then-n-ne0 c =
-    let s = c.args in
-    lists_refused s.start (framed s.b.now s.from s.to s.batch) (report_of c.refusal.result) (two_versions _ _ c.admit-n.ensures) c.if-n-ne0.true c.refusal.ensures
+    → let s = c.args in Gathered s.b.now s.from s.to c.collect.new.words c.collect.result
+gathered c = record { admitted = admission c.in_ok-admit.was c.admit.ensures; is = c.collect.ensures }
 
 pub collect-requires : goal.collect-requires
-collect-requires c = let A = admitted (goal.at.collect-requires c).Else-n-ne0 in (A.sound, A.first, A.second, refl)
+collect-requires c = let A = admission c.in_ok-admit.was c.admit.ensures in (A.sound, known_first _ A.versions, known_second _ _ A.versions, refl)
 
-pub returns-in_default : goal.returns-in_default
-returns-in_default c =
-    let s = c.args in
-    gathered_deep (gathered (goal.at.returns-in_default c).After-collect) s.start s.batch (report_of c.refusal-in_default.result) c.in_default.is c.refusal-in_default.ensures
-
-pub write_lines-written-requires : goal.write_lines-written-requires
-write_lines-written-requires c =
-    let few = gathered_few (gathered (goal.at.write_lines-written-requires c).After-collect) c.in-Changes.is in
-    (omega (arith, few, c.collect.auto.changes), few)
+pub write_lines-requires : goal.write_lines-requires
+write_lines-requires c =
+    let few = gathered_few (gathered (goal.at.write_lines-requires c).After-collect) c.in_ok-changes.was in
+    record { few = omega (arith, c.frames-total.ensures, one_few _ few); gives = λ i h. let l : i < at_least_one c.in_ok-changes.changes.count = omega (arith, c.frames-total.ensures) in search rules }
 
 pub returns : goal.returns
 returns c =
-    let s = c.args in
-    gathered_done (gathered (goal.at.returns c).After-collect) s.start s.batch _ _ _ c.in-Changes.is c.write_lines-written.ensures _ (ap (λ t. record { number = 0; written = c.write_lines-written.result; total = t }) c.at_least_one.ensures)
+    let k = c.in_ok-changes.changes in
+    let ws = c.collect.new.words in
+    let wrote = c.write_lines.ensures _ (frames_long c.args.batch k.puts ws k.count ∙ sym c.frames-total.ensures, λ i f h p. let is : fields_of f ≡ frame_in c.args.batch k.puts k.count ws i = search rules in is ∙ sym (frame_in_lem c.args.batch k.puts ws k.count i (omega (arith, c.frames-total.ensures)))) in
+    gathered_done (gathered (goal.at.returns c).After-collect) c.args.start c.args.batch c.write_lines.result c.in_ok-changes.was wrote c.frames-total.ensures

@@ -1,62 +1,51 @@
 -- The checks come first; then the walk up to its first put, and where it met none the two sizes.
-use native.Mathlib.Omega.{arith}
-use Rattle.table.specs.Answers.{answer_of}
-use Rattle.table.proofs.Admitting.{two_versions, Admission, admission}
-use Rattle.table.proofs.Settling.{Source, source_named, read-asks}
-use Rattle.lists.proofs.Comparing.{same_refused, Compared, same_deep, same_put, same_unequal, same_equal}
+use mathlib.Core.List.{[], ◌∷◌}
+use borrow.Author.Tests.{ne_eqb}
+use Rattle.std.proofs.lemmas.Result.{err_from_is_err_and}
+use Rattle.table.proofs.Admitting.{Admission, admission, known_first, known_second}
+use Rattle.table.proofs.Settling.{source_named, read-asks}
+use Rattle.lists.proofs.Comparing.{Compared, first_source, second_source, same_deep, same_put, same_sizes}
 use Rattle.lists.proofs.same.same.Goals as goal
-use Rattle.lists.proofs.same.same.Goals.{After-root-y, After-walk, Else-n-ne0}
+use Rattle.lists.proofs.same.same.Goals.{After-walk, In_ok-admit}
 
-admitted : (c : Else-n-ne0) → let s = c.args in Admission s.b.now s.from s.to s.to
-admitted c = admission _ _ _ c.admit-n.ensures c.if-n-ne0.false
-
-old : (c : After-root-y) → let s = c.args in Source s.b.now s.from c.root-x.result
-old c = let A = admission _ _ _ c.admit-n.ensures c.if-n-ne0.false in record { sound = A.sound; known = A.first; is = c.root-x.ensures }
-
-new : (c : After-root-y) → let s = c.args in Source s.b.now s.to c.root-y.result
-new c = let A = admission _ _ _ c.admit-n.ensures c.if-n-ne0.false in record { sound = A.sound; known = A.second; is = c.root-y.ensures }
+admitted : (c : In_ok-admit) → let s = c.args in Admission s.b.now (s.from ∷ s.to ∷ [])
+admitted c = admission c.in_ok-admit.was c.admit.ensures
 
 compared : (c : After-walk)
     → let s = c.args in Compared s.b.now s.from s.to c.root-x.result c.root-y.result c.walk.result
-compared c =
-    let A = admission _ _ _ c.admit-n.ensures c.if-n-ne0.false in
-    record {
-      old = record { sound = A.sound; known = A.first; is = c.root-x.ensures };
-      new = record { sound = A.sound; known = A.second; is = c.root-y.ensures };
-      answered = c.walk.ensures.value;
-    }
-
-pub returns-then-n-ne0 : goal.returns-then-n-ne0
-returns-then-n-ne0 c =
-    let s = c.args in
-    same_refused s.from s.to (answer_of c.plain.result) (two_versions _ _ c.admit-n.ensures) c.if-n-ne0.true c.plain.ensures
+compared c = record {
+  admitted = admission c.in_ok-admit.was c.admit.ensures;
+  old = c.root-x.ensures;
+  new = c.root-y.ensures;
+  answered = c.walk.ensures.value;
+}
 
 pub root-x-requires : goal.root-x-requires
-root-x-requires c = let A = admitted c in (A.sound.shaped, A.first)
+root-x-requires c = let A = admitted c in (A.sound.shaped, known_first _ A.versions)
 
 pub root-y-requires : goal.root-y-requires
-root-y-requires c = let A = admitted (goal.at.root-y-requires c).Else-n-ne0 in (A.sound.shaped, A.second)
+root-y-requires c = let A = admitted (goal.at.root-y-requires c).In_ok-admit in (A.sound.shaped, known_second _ _ A.versions)
 
 pub walk-requires : goal.walk-requires
-walk-requires c = ((old (goal.at.walk-requires c).After-root-y).sound, source_named (new (goal.at.walk-requires c).After-root-y), source_named (old (goal.at.walk-requires c).After-root-y))
+walk-requires c =
+    let A = admitted (goal.at.walk-requires c).In_ok-admit in
+    (A.sound, source_named (second_source A c.root-y.ensures), source_named (first_source A c.root-x.ensures))
 
-pub returns-in_default : goal.returns-in_default
-returns-in_default c = same_deep (compared (goal.at.returns-in_default c).After-walk) (answer_of c.plain-in_default.result) c.in_default.is c.plain-in_default.ensures
-
-pub returns-then-puts-gt0 : goal.returns-then-puts-gt0
-returns-then-puts-gt0 c =
-    same_put (compared (goal.at.returns-then-puts-gt0 c).After-walk) (answer_of c.giving.result) c.in-Total.is (λ z. omega arith) c.giving.ensures
+pub returns-in_err-puts : goal.returns-in_err-puts
+returns-in_err-puts c =
+    let p = err_from_is_err_and c.from_residual-in_err-puts.result c.from_residual-in_err-puts.ensures.1 in
+    rw (p.1, p.2) (same_deep (compared (goal.at.returns-in_err-puts c).After-walk) c.in_err-puts.was)
 
 pub size_at-requires : goal.size_at-requires
-size_at-requires c = read-asks (old (goal.at.size_at-requires c).After-root-y)
+size_at-requires c = read-asks (first_source (admitted (goal.at.size_at-requires c).In_ok-admit) c.root-x.ensures)
 
-pub size_at-requires-2 : goal.size_at-requires-2
-size_at-requires-2 c = read-asks (new (goal.at.size_at-requires-2 c).After-root-y)
+pub size_at-requires-then-no_puts : goal.size_at-requires-then-no_puts
+size_at-requires-then-no_puts c = read-asks (second_source (admitted (goal.at.size_at-requires-then-no_puts c).In_ok-admit) c.root-y.ensures)
 
-pub returns-then-size_at : goal.returns-then-size_at
-returns-then-size_at c =
-    same_unequal (compared (goal.at.returns-then-size_at c).After-walk) (answer_of c.giving-then-size_at.result) c.in-Total.is (omega arith) c.size_at.ensures c.size_at-2.ensures c.if-size_at.true c.giving-then-size_at.ensures
+pub returns-then-no_puts : goal.returns-then-no_puts
+returns-then-no_puts c =
+    same_sizes (compared (goal.at.returns-then-no_puts c).After-walk) c.in_ok-puts.was c.if-no_puts.true c.size_at.ensures c.size_at-then-no_puts.ensures
 
-pub returns : goal.returns
-returns c =
-    same_equal (compared (goal.at.returns c).After-walk) (answer_of c.giving-2.result) c.in-Total.is (omega arith) c.size_at.ensures c.size_at-2.ensures c.if-size_at.false c.giving-2.ensures
+pub returns-else-no_puts : goal.returns-else-no_puts
+returns-else-no_puts c =
+    rw (ne_eqb c.in_ok-puts.puts 0 c.if-no_puts.false) (same_put (compared (goal.at.returns-else-no_puts c).After-walk) c.in_ok-puts.was c.if-no_puts.false)

@@ -1,25 +1,9 @@
--- The block's check decides the first two numbers; each version is then tested by itself.
-use native.Mathlib.Omega.{arith}
-use mathlib.Core.List.{[], ◌∷◌}
-use Rattle.model.specs.Calls.{Versions}
-use Rattle.model.proofs.calls.Checks.{check_sound}
-use Rattle.table.proofs.Admitting.{checked_refused, checked_versions, checked_all, three_known}
+-- The block's check decides the first two, and the test of the versions the third.
+use Rattle.table.proofs.Admitting.{checked, versions_known, version_unknown}
 use Rattle.table.proofs.checks.admit.Goals as goal
 
-pub returns-then-n-ne0 : goal.returns-then-n-ne0
-returns-then-n-ne0 c = checked_refused _ _ _ c.check-n.ensures c.if-n-ne0.true
-
-pub returns-then-v-gt15 : goal.returns-then-v-gt15
-unfolding Versions
-returns-then-v-gt15 c = let a = c.args in checked_versions _ (a.v ∷ a.w ∷ a.x ∷ []) (check_sound c.check-n.ensures c.if-n-ne0.false) (λ u. omega (arith, u.0))
-
-pub returns-then-w-gt15 : goal.returns-then-w-gt15
-unfolding Versions
-returns-then-w-gt15 c = let a = c.args in checked_versions _ (a.v ∷ a.w ∷ a.x ∷ []) (check_sound c.check-n.ensures c.if-n-ne0.false) (λ u. omega (arith, u.1.0))
-
-pub returns-then-x-gt15 : goal.returns-then-x-gt15
-unfolding Versions
-returns-then-x-gt15 c = let a = c.args in checked_versions _ (a.v ∷ a.w ∷ a.x ∷ []) (check_sound c.check-n.ensures c.if-n-ne0.false) (λ u. omega (arith, u.1.1.0))
+pub returns-then-not-known : goal.returns-then-not-known
+returns-then-not-known c = version_unknown _ (checked c.in_ok-check.was c.check.ensures) c.known.ensures c.if-not-known.true
 
 pub returns : goal.returns
-returns c = let a = c.args in checked_all _ (a.v ∷ a.w ∷ a.x ∷ []) (check_sound c.check-n.ensures c.if-n-ne0.false) (three_known (omega arith) (omega arith) (omega arith))
+returns c = versions_known _ (checked c.in_ok-check.was c.check.ensures) c.known.ensures c.if-not-known.false
