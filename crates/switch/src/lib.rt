@@ -1,6 +1,8 @@
 // What the switch's host calls: one call each, and nothing else. Each answers the number and sets its fields through the pointers.
 #![tactic(auto)]
 
+mod tells;
+
 ghost use Rattle.model.specs.Calls.{Fresh, Lookup, Size, Held, HeldBetween, Edits, inserting, removing, copying, clearing, uniting, lessening, Checked};
 ghost use Rattle.model.specs.Batch.{BatchWords};
 ghost use Rattle.model.specs.Restore.{Restore};
@@ -13,13 +15,15 @@ ghost use Rattle.ledger.specs.Ledger as totals;
 ghost use Rattle.switch.specs.Cancels.{rule_for};
 ghost use Rattle.std.specs.Prelude.{eqb, ◌≡◌};
 
+use answers::code;
+use tells::{tell_done, tell_field, tell_found, tell_heard, tell_reply, tell_report};
+
 // Writes N and zeros: sixteen empty versions.
 #[unsafe(no_mangle)]
 pub extern "C" fn ksk_fresh(block: &mut [u32], n: u32) -> u32
     ensures { Fresh block.old block.new n (record { number = result; found = 0; value = 0 }) }
 {
-    let a = table::fresh(block, n);
-    a.number
+    code(table::fresh(block, n))
 }
 
 // The value under a key.
@@ -33,10 +37,7 @@ pub extern "C" fn ksk_lookup(
 ) -> u32
     ensures { Lookup block.now version key (record { number = result; found = found.new; value = value.new }) }
 {
-    let a = table::lookup(block, version, key);
-    *found = a.found;
-    *value = a.value;
-    a.number
+    tell_found(table::lookup(block, version, key), found, value)
 }
 
 // The number of entries.
@@ -44,9 +45,7 @@ pub extern "C" fn ksk_lookup(
 pub extern "C" fn ksk_size(block: &[u32], version: u32, size: &mut u32) -> u32
     ensures { Size block.now version (record { number = result; found = 0; value = size.new }) }
 {
-    let a = table::size(block, version);
-    *size = a.value;
-    a.number
+    tell_field(table::size(block, version), 0, size)
 }
 
 // The minutes that a version holds.
@@ -54,9 +53,7 @@ pub extern "C" fn ksk_size(block: &[u32], version: u32, size: &mut u32) -> u32
 pub extern "C" fn ksk_held(block: &[u32], version: u32, minutes: &mut u64) -> u32
     ensures { Held block.now version (record { number = result; found = 0; value = minutes.new }) }
 {
-    let a = table::held(block, version);
-    *minutes = a.minutes;
-    a.number
+    tell_field(table::held(block, version), 0, minutes)
 }
 
 // The minutes that it holds from key first to key last, ends included.
@@ -70,9 +67,7 @@ pub extern "C" fn ksk_held_between(
 ) -> u32
     ensures { HeldBetween block.now version first last (record { number = result; found = 0; value = minutes.new }) }
 {
-    let a = table::held_between(block, version, first, last);
-    *minutes = a.minutes;
-    a.number
+    tell_field(table::held_between(block, version, first, last), 0, minutes)
 }
 
 // Version dest becomes version source with value under key.
@@ -88,10 +83,7 @@ pub extern "C" fn ksk_insert(
 ) -> u32
     ensures { Edits block.old block.new (inserting block.old dest source key value) (record { number = result; found = had.new; value = old.new }) }
 {
-    let a = table::insert(block, dest, source, key, value);
-    *had = a.found;
-    *old = a.value;
-    a.number
+    tell_found(table::insert(block, dest, source, key, value), had, old)
 }
 
 // Version dest becomes version source without key.
@@ -106,10 +98,7 @@ pub extern "C" fn ksk_remove(
 ) -> u32
     ensures { Edits block.old block.new (removing block.old dest source key) (record { number = result; found = had.new; value = old.new }) }
 {
-    let a = table::remove(block, dest, source, key);
-    *had = a.found;
-    *old = a.value;
-    a.number
+    tell_found(table::remove(block, dest, source, key), had, old)
 }
 
 // Version dest becomes version source.
@@ -117,8 +106,7 @@ pub extern "C" fn ksk_remove(
 pub extern "C" fn ksk_copy(block: &mut [u32], dest: u32, source: u32) -> u32
     ensures { Edits block.old block.new (copying block.old dest source) (record { number = result; found = 0; value = 0 }) }
 {
-    let a = table::copy(block, dest, source);
-    a.number
+    code(table::copy(block, dest, source))
 }
 
 // Version dest becomes version source after the edits, three words a record.
@@ -126,7 +114,7 @@ pub extern "C" fn ksk_copy(block: &mut [u32], dest: u32, source: u32) -> u32
 pub extern "C" fn ksk_batch(block: &mut [u32], dest: u32, source: u32, edits: &[u32]) -> u32
     ensures { BatchWords block.old block.new dest source edits.now result }
 {
-    batch::batch_words(block, dest, source, edits)
+    code(batch::batch_words(block, dest, source, edits))
 }
 
 // A version becomes what the lines of a text say; line is the number of a faulty one.
@@ -134,9 +122,16 @@ pub extern "C" fn ksk_batch(block: &mut [u32], dest: u32, source: u32, edits: &[
 pub extern "C" fn ksk_restore(block: &mut [u32], version: u32, text: &[u8], line: &mut u64) -> u32
     ensures { Restore block.old block.new version text.now result line.new }
 {
-    let a = restore::restore(block, version, text);
-    *line = a.line;
-    a.number
+    match restore::restore(block, version, text) {
+        Ok(()) => {
+            *line = 0;
+            0
+        }
+        Err(fault) => {
+            *line = fault.line();
+            fault.number()
+        }
+    }
 }
 
 // A version becomes empty.
@@ -144,8 +139,7 @@ pub extern "C" fn ksk_restore(block: &mut [u32], version: u32, text: &[u8], line
 pub extern "C" fn ksk_clear(block: &mut [u32], version: u32) -> u32
     ensures { Edits block.old block.new (clearing version) (record { number = result; found = 0; value = 0 }) }
 {
-    let a = table::clear(block, version);
-    a.number
+    code(table::clear(block, version))
 }
 
 // Version dest becomes the union of versions left and right.
@@ -153,8 +147,7 @@ pub extern "C" fn ksk_clear(block: &mut [u32], version: u32) -> u32
 pub extern "C" fn ksk_union(block: &mut [u32], dest: u32, left: u32, right: u32, rule: u32) -> u32
     ensures { Edits block.old block.new (uniting block.old dest left right rule) (record { number = result; found = 0; value = 0 }) }
 {
-    let a = table::union(block, dest, left, right, rule);
-    a.number
+    code(table::union(block, dest, left, right, rule))
 }
 
 // The rule, where cancel is 0 or 1; else a number that is no rule.
@@ -179,15 +172,14 @@ pub extern "C" fn ksk_difference(
 ) -> u32
     ensures { Edits block.old block.new (lessening block.old dest left right (rule_for cancel rule) (eqb cancel 1)) (record { number = result; found = 0; value = 0 }) }
 {
-    let a = table::difference(
+    code(table::difference(
         block,
         dest,
         left,
         right,
         rule_for(cancel, rule),
         cancel == 1,
-    );
-    a.number
+    ))
 }
 
 // Version left listed against version right, from index start on.
@@ -203,10 +195,11 @@ pub extern "C" fn ksk_list(
 ) -> u32
     ensures { Lists block.now out.old out.new start (listed block.now left right) (record { number = result; written = written.new; total = total.new }) }
 {
-    let a = lists::entries::list(block, left, right, start, out);
-    *written = a.written;
-    *total = a.total;
-    a.number
+    tell_report(
+        lists::entries::list(block, left, right, start, out),
+        written,
+        total,
+    )
 }
 
 // The lines that carry version from to version to, from index start on.
@@ -223,10 +216,11 @@ pub extern "C" fn ksk_frames(
 ) -> u32
     ensures { Lists block.now out.old out.new start (framed block.now from to batch) (record { number = result; written = written.new; total = total.new }) }
 {
-    let a = lists::lines::frames(block, from, to, batch, start, out);
-    *written = a.written;
-    *total = a.total;
-    a.number
+    tell_report(
+        lists::lines::frames(block, from, to, batch, start, out),
+        written,
+        total,
+    )
 }
 
 // Whether two versions hold the same entries: 1 or 0.
@@ -234,9 +228,16 @@ pub extern "C" fn ksk_frames(
 pub extern "C" fn ksk_same(block: &[u32], from: u32, to: u32, same: &mut u32) -> u32
     ensures { Same block.now from to (record { number = result; found = 0; value = same.new }) }
 {
-    let a = lists::same::same(block, from, to);
-    *same = a.value;
-    a.number
+    match lists::same::same(block, from, to) {
+        Ok(are) => {
+            *same = are as u32;
+            0
+        }
+        Err(refusal) => {
+            *same = 0;
+            refusal.number()
+        }
+    }
 }
 
 // The fields of one line, or what is wrong with it.
@@ -253,16 +254,28 @@ pub extern "C" fn ksk_parse(
 ) -> u32
     ensures { Parse (read line.now) result (record { batch = batch.new; index = index.new; count = count.new; kind = kind.new; key = key.new; value = value.new }) place.new }
 {
-    let a = link::parse(line);
-    let f = a.fields;
-    *batch = f.batch;
-    *index = f.index;
-    *count = f.count;
-    *kind = f.kind;
-    *key = f.key;
-    *value = f.value;
-    *place = a.place;
-    a.number
+    *batch = 0;
+    *index = 0;
+    *count = 0;
+    *kind = 0;
+    *key = 0;
+    *value = 0;
+    *place = 0;
+    match link::parse(line) {
+        Ok(f) => {
+            *batch = f.batch;
+            *index = f.index;
+            *count = f.count;
+            *kind = f.kind;
+            *key = f.key;
+            *value = f.value;
+            0
+        }
+        Err(fault) => {
+            *place = fault.place();
+            fault.number()
+        }
+    }
 }
 
 // The inbox made ready for a batch.
@@ -270,7 +283,7 @@ pub extern "C" fn ksk_parse(
 pub extern "C" fn ksk_begin(inbox: &mut [u32], batch: u32) -> u32
     ensures { Begin inbox.old inbox.new batch result }
 {
-    inbox::begin(inbox, batch)
+    code(inbox::begin(inbox, batch))
 }
 
 // One line heard.
@@ -286,11 +299,12 @@ pub extern "C" fn ksk_receive(
 ) -> u32
     ensures { Receive (record { block = block.old; inbox = inbox.old; block' = block.new; inbox' = inbox.new; answer = record { number = result; again = repeat.new; missing = missing.new; place = place.new } }) version line.now }
 {
-    let a = link::receive(block, inbox, version, line);
-    *repeat = a.again;
-    *missing = a.missing;
-    *place = a.place;
-    a.number
+    tell_heard(
+        link::receive(block, inbox, version, line),
+        repeat,
+        missing,
+        place,
+    )
 }
 
 // How many lines are missing.
@@ -298,9 +312,7 @@ pub extern "C" fn ksk_receive(
 pub extern "C" fn ksk_missing(inbox: &[u32], missing: &mut u32) -> u32
     ensures { Missing inbox.now result missing.new }
 {
-    let a = inbox::question(inbox);
-    *missing = a.missing;
-    a.number
+    tell_field(inbox::question(inbox), 0, missing)
 }
 
 // The lines that ask for what the inbox misses, from index start on.
@@ -314,10 +326,7 @@ pub extern "C" fn ksk_ask(
 ) -> u32
     ensures { Ask inbox.now out.old out.new start (record { number = result; written = written.new; total = total.new }) }
 {
-    let a = lists::ask::ask(inbox, start, out);
-    *written = a.written;
-    *total = a.total;
-    a.number
+    tell_report(lists::ask::ask(inbox, start, out), written, total)
 }
 
 // The lines that a request asks for, from index start on.
@@ -335,10 +344,11 @@ pub extern "C" fn ksk_resend(
 ) -> u32
     ensures { Resend (record { block = block.now; from = from; to = to; batch = batch }) request.now out.old out.new start (record { number = result; written = written.new; total = total.new }) }
 {
-    let a = lists::resend::resend(block, from, to, batch, request, start, out);
-    *written = a.written;
-    *total = a.total;
-    a.number
+    tell_report(
+        lists::resend::resend(block, from, to, batch, request, start, out),
+        written,
+        total,
+    )
 }
 
 // 0 for a sound block, else SHAPE or DAMAGED.
@@ -346,7 +356,7 @@ pub extern "C" fn ksk_resend(
 pub extern "C" fn ksk_audit(block: &[u32]) -> u32
     ensures { Checked block.now result }
 {
-    audit::check(block)
+    code(audit::check(block))
 }
 
 // A ledger of so many accounts with nothing in them.
@@ -354,7 +364,7 @@ pub extern "C" fn ksk_audit(block: &[u32]) -> u32
 pub extern "C" fn ksk_ledger_fresh(ledger: &mut [u64], accounts: u32) -> u32
     ensures { totals.Fresh ledger.old ledger.new accounts result }
 {
-    ledger::fresh(ledger, accounts)
+    tell_done(ledger::fresh(ledger, accounts))
 }
 
 // Minutes paid for.
@@ -362,7 +372,7 @@ pub extern "C" fn ksk_ledger_fresh(ledger: &mut [u64], accounts: u32) -> u32
 pub extern "C" fn ksk_ledger_top_up(ledger: &mut [u64], account: u32, minutes: u64) -> u32
     ensures { totals.TopUp ledger.old ledger.new account minutes result }
 {
-    ledger::top_up(ledger, account, minutes)
+    tell_done(ledger::top_up(ledger, account, minutes))
 }
 
 // A call opens.
@@ -377,9 +387,10 @@ pub extern "C" fn ksk_ledger_reserve(
 ) -> u32
     ensures { totals.Reserve (record { ledger = ledger.old; block = block.old; ledger' = ledger.new; block' = block.new; answer = record { number = result; table = table.new } }) version call minutes }
 {
-    let a = ledger::reserve(ledger, block, version, call, minutes);
-    *table = a.table;
-    a.number
+    tell_reply(
+        ledger::reserve(ledger, block, version, call, minutes),
+        table,
+    )
 }
 
 // A call ends.
@@ -394,9 +405,7 @@ pub extern "C" fn ksk_ledger_settle(
 ) -> u32
     ensures { totals.Settle (record { ledger = ledger.old; block = block.old; ledger' = ledger.new; block' = block.new; answer = record { number = result; table = table.new } }) version call used }
 {
-    let a = ledger::settle(ledger, block, version, call, used);
-    *table = a.table;
-    a.number
+    tell_reply(ledger::settle(ledger, block, version, call, used), table)
 }
 
 // A call is dropped.
@@ -410,9 +419,7 @@ pub extern "C" fn ksk_ledger_release(
 ) -> u32
     ensures { totals.Release (record { ledger = ledger.old; block = block.old; ledger' = ledger.new; block' = block.new; answer = record { number = result; table = table.new } }) version call }
 {
-    let a = ledger::release(ledger, block, version, call);
-    *table = a.table;
-    a.number
+    tell_reply(ledger::release(ledger, block, version, call), table)
 }
 
 // An account's totals.
@@ -426,11 +433,18 @@ pub extern "C" fn ksk_ledger_account(
 ) -> u32
     ensures { totals.Account ledger.now account (record { number = result; topped = topped.new; spent = spent.new; free = free.new }) }
 {
-    let a = ledger::account(ledger, account);
-    *topped = a.topped;
-    *spent = a.spent;
-    *free = a.free;
-    a.number
+    *topped = 0;
+    *spent = 0;
+    *free = 0;
+    match ledger::account(ledger, account) {
+        Ok(totals) => {
+            *topped = totals.topped;
+            *spent = totals.spent;
+            *free = totals.free;
+            0
+        }
+        Err(fault) => fault.number(),
+    }
 }
 
 // A kiosk with no entries.
@@ -438,7 +452,7 @@ pub extern "C" fn ksk_ledger_account(
 pub extern "C" fn ksk_kiosk_fresh(kiosk: &mut [u32]) -> u32
     ensures { flat.Fresh kiosk.old kiosk.new result }
 {
-    kiosk::fresh(kiosk)
+    code(kiosk::fresh(kiosk))
 }
 
 // The value under a key of a kiosk.
@@ -446,10 +460,7 @@ pub extern "C" fn ksk_kiosk_fresh(kiosk: &mut [u32]) -> u32
 pub extern "C" fn ksk_kiosk_lookup(kiosk: &[u32], key: u32, found: &mut u32, value: &mut u32) -> u32
     ensures { flat.Lookup kiosk.now key (record { number = result; found = found.new; value = value.new }) }
 {
-    let a = kiosk::lookup(kiosk, key);
-    *found = a.found;
-    *value = a.value;
-    a.number
+    tell_found(kiosk::lookup(kiosk, key), found, value)
 }
 
 // A key put into a kiosk.
@@ -463,10 +474,7 @@ pub extern "C" fn ksk_kiosk_insert(
 ) -> u32
     ensures { flat.Insert kiosk.old kiosk.new key value (record { number = result; found = had.new; value = old.new }) }
 {
-    let a = kiosk::insert(kiosk, key, value);
-    *had = a.found;
-    *old = a.value;
-    a.number
+    tell_found(kiosk::insert(kiosk, key, value), had, old)
 }
 
 // A key taken out of a kiosk.
@@ -474,10 +482,7 @@ pub extern "C" fn ksk_kiosk_insert(
 pub extern "C" fn ksk_kiosk_remove(kiosk: &mut [u32], key: u32, had: &mut u32, old: &mut u32) -> u32
     ensures { flat.Remove kiosk.old kiosk.new key (record { number = result; found = had.new; value = old.new }) }
 {
-    let a = kiosk::remove(kiosk, key);
-    *had = a.found;
-    *old = a.value;
-    a.number
+    tell_found(kiosk::remove(kiosk, key), had, old)
 }
 
 // The entries of a kiosk.
@@ -491,10 +496,7 @@ pub extern "C" fn ksk_kiosk_list(
 ) -> u32
     ensures { flat.Lists kiosk.now out.old out.new start (record { number = result; written = written.new; total = total.new }) }
 {
-    let a = kiosk::list(kiosk, start, out);
-    *written = a.written;
-    *total = a.total;
-    a.number
+    tell_report(kiosk::list(kiosk, start, out), written, total)
 }
 
 // One line heard at a kiosk.
@@ -509,9 +511,5 @@ pub extern "C" fn ksk_kiosk_receive(
 ) -> u32
     ensures { flat.Receive (record { block = kiosk.old; inbox = inbox.old; block' = kiosk.new; inbox' = inbox.new; answer = record { number = result; again = repeat.new; missing = missing.new; place = place.new } }) line.now }
 {
-    let a = kiosk::receive(kiosk, inbox, line);
-    *repeat = a.again;
-    *missing = a.missing;
-    *place = a.place;
-    a.number
+    tell_heard(kiosk::receive(kiosk, inbox, line), repeat, missing, place)
 }
