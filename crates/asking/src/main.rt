@@ -15,7 +15,7 @@ fn request<R: Read>(input: &mut R, b: &mut [u32], x: &mut [u32], out: &mut [u8])
     ensures { (result ≤ 71680) × Asks (take result out.new) }
 {
     hear_input(input, b, x);
-    let report = ask(x, 0, out);
+    let report = ask(x, 0, out).unwrap();
     report.written as usize
 }
 

@@ -1,91 +1,68 @@
 // Cases 9 to 11 of document 01 and the longest chains, run through the public calls; what is printed is compared.
 #![tactic(auto)]
 
-ghost use Rattle.std.specs.Prelude.{◌≤◌, ◌<◌};
+ghost use Rattle.std.specs.Prelude.{◌+◌, ◌≤◌, ◌<◌};
 
+use answers::{Fault, Refusal};
 use link::parse;
 use lists::entries::list;
 use std::io;
 use table::{
-    Answer, Minutes, clear, copy, difference, fresh, held, held_between, insert, lookup, remove,
-    size, union,
+    clear, copy, difference, fresh, held, held_between, insert, lookup, remove, size, union,
 };
 
-// The number that a call gave back.
-fn number(rt: &impl Print, a: Answer) -> io::Result<()> {
-    let number = a.number;
+// The number that a call gave back: 0 for done.
+fn number<T: Drop>(rt: &impl Print, answer: Result<T, Refusal>) -> io::Result<()> {
+    let number = match answer {
+        Ok(_) => 0,
+        Err(refusal) => refusal.number(),
+    };
     print!(rt; " {number}")
 }
 
 // What was done, and that number.
-fn show(rt: &impl Print, s: &str, a: Answer) -> io::Result<()> {
+fn show<T: Drop>(rt: &impl Print, s: &str, answer: Result<T, Refusal>) -> io::Result<()> {
     rt.print(s)?;
-    number(rt, a)
+    number(rt, answer)
 }
 
 // Keys 1 to n, ascending, into a version.
 fn fill(b: &mut [u32], version: u32, n: u32) {
-    let mut i = 0;
-    while i < n {
-        i += 1;
-        insert(b, version, version, i, i);
+    for i in 1..=n {
+        let _ = insert(b, version, version, i, i);
     }
 }
 
 // Beside two trees of 12, one of 1 and the chain 1, 2, 3, four of 32 nodes are free. The insert of 4 makes five, and takes one of them apart before it makes the last two.
 fn exact_room(rt: &impl Print) -> io::Result<()> {
     let mut b = [0u32; 274];
-    fresh(&mut b, 32);
+    let _ = fresh(&mut b, 32);
     fill(&mut b, 1, 12);
     fill(&mut b, 2, 12);
     fill(&mut b, 3, 1);
     fill(&mut b, 0, 3);
     let mut crowded = b;
-    insert(&mut crowded, 4, 4, 9, 9);
+    let _ = insert(&mut crowded, 4, 4, 9, 9);
     show(rt, "case 10: exact room", insert(&mut b, 0, 0, 4, 4))?;
     show(rt, ", one fewer", insert(&mut crowded, 0, 0, 4, 4))?;
     rt.print("\n")
 }
 
-// One of the calls, on the versions that it names.
-fn call(b: &mut [u32], which: u32, v: u32, w: u32, x: u32, key: u32) -> Answer {
-    if which == 0 {
-        return lookup(b, v, key);
-    }
-    if which == 1 {
-        return size(b, v);
-    }
-    if which == 2 {
-        return clear(b, v);
-    }
-    if which == 3 {
-        return insert(b, v, w, key, 1);
-    }
-    if which == 4 {
-        return remove(b, v, w, key);
-    }
-    if which == 5 {
-        return copy(b, v, w);
-    }
-    if which == 6 {
-        return union(b, v, w, x, 0);
-    }
-    difference(b, v, w, x, 0, false)
-}
-
-// Each of the calls in turn.
+// Each of the calls in turn, on the versions that it names.
 fn calls(rt: &impl Print, b: &mut [u32], v: u32, w: u32, x: u32, key: u32) -> io::Result<()> {
-    let mut which = 0;
-    while which < 8 {
-        number(rt, call(b, which, v, w, x, key))?;
-        which += 1;
-    }
-    Ok(())
+    number(rt, lookup(b, v, key))?;
+    number(rt, size(b, v))?;
+    number(rt, clear(b, v))?;
+    number(rt, insert(b, v, w, key, 1))?;
+    number(rt, remove(b, v, w, key))?;
+    number(rt, copy(b, v, w))?;
+    number(rt, union(b, v, w, x, 0))?;
+    number(rt, difference(b, v, w, x, 0, false))
 }
 
 fn name_version(rt: &impl Print, v: u32) -> io::Result<()> {
     let mut b = [0u32; 274];
-    fresh(&mut b, 32);
+    let _ = fresh(&mut b, 32);
     calls(rt, &mut b, v, 0, 0, 1)?;
     rt.print(", second:")?;
     calls(rt, &mut b, 0, v, 0, 1)?;
@@ -113,7 +90,7 @@ fn largest(rt: &impl Print) -> io::Result<()> {
 // A version number is looked at before a rule number.
 fn known_rules(rt: &impl Print) -> io::Result<()> {
     let mut b = [0u32; 274];
-    fresh(&mut b, 32);
+    let _ = fresh(&mut b, 32);
     show(rt, "rules: union by 4", union(&mut b, 0, 0, 0, 4))?;
     show(rt, ", by 5", union(&mut b, 0, 0, 0, 5))?;
     show(rt, ", of version 16 by 5", union(&mut b, 0, 16, 0, 5))?;
@@ -131,22 +108,22 @@ fn known_rules(rt: &impl Print) -> io::Result<()> {
 }
 
 // What version 1 holds under key 1, after the call that made it.
-fn holds(rt: &impl Print, s: &str, b: &[u32], a: Answer) -> io::Result<()> {
-    show(rt, s, a)?;
-    let f = lookup(b, 1, 1);
-    let found = f.found;
-    let value = f.value;
-    print!(rt; " {found}:{value}")
+fn holds(rt: &impl Print, s: &str, b: &[u32], done: Result<(), Refusal>) -> io::Result<()> {
+    show(rt, s, done)?;
+    match lookup(b, 1, 1) {
+        Ok(Some(value)) => print!(rt; " 1:{value}"),
+        _ => rt.print(" 0:0"),
+    }
 }
 
 // 0 minutes are not put, whether the key is there or not, and a version number is looked at before. A block that holds them by hand is sound, and they are
 // carried: node 1 has its value at word 19 and its sum at 24.
 fn zeros(rt: &impl Print) -> io::Result<()> {
     let mut b = [0u32; 274];
-    fresh(&mut b, 32);
+    let _ = fresh(&mut b, 32);
     show(rt, "zeros: insert", insert(&mut b, 0, 0, 1, 0))?;
     show(rt, ", of version 16", insert(&mut b, 0, 16, 1, 0))?;
-    insert(&mut b, 0, 0, 1, 7);
+    let _ = insert(&mut b, 0, 0, 1, 7);
     show(rt, ", of a key that is there", insert(&mut b, 0, 0, 1, 0))?;
     put(&mut b, 19, 0);
     put(&mut b, 24, 0);
@@ -160,35 +137,35 @@ fn zeros(rt: &impl Print) -> io::Result<()> {
 }
 
 fn put(b: &mut [u32], at: usize, x: u32) {
-    if at < b.len() {
-        b[at] = x;
+    if let Some(word) = b.get_mut(at) {
+        *word = x;
     }
 }
 
-// Node i + 1 of a right chain of the keys 1 to n, one minute each.
-fn right_link(b: &mut [u32], i: u32, n: u32)
-    requires { (i < n) × (n ≤ 4096) }
-{
-    let at = (145 + 8 * i) as usize;
-    put(b, at, i + 1);
-    put(b, at + 1, 1);
-    put(b, at + 3, if i + 1 < n { i + 2 } else { 0 });
-    put(b, at + 4, n - i);
-    put(b, at + 5, 1);
-    put(b, at + 6, n - i);
+// A node of a chain from its first word on: as many minutes stand below it as nodes.
+fn put_node(b: &mut [u32], at: u32, key: u32, left: u32, right: u32, size: u32) {
+    let at = at as usize;
+    if let Some(node) = b.get_mut(at..at + 7) {
+        node.copy_from_slice(&[key, 1, left, right, size, 1, size]);
+    }
 }
 
-// Version 0 of N = 4,096 becomes that chain, by hand; n is a multiple of 32.
+// The node behind node i + 1 in a chain of n; 0 behind the last.
+fn next(i: u32, n: u32) -> u32
+    requires { (i < n) × (n ≤ 4096) }
+{
+    if i + 1 < n { i + 2 } else { 0 }
+}
+
+// Version 0 of N = 4,096 becomes a right chain of the keys 1 to n, one minute each, by hand; n is a multiple of 32.
 fn chain(b: &mut [u32], n: u32)
     requires { n ≤ 4096 }
 {
-    fresh(b, 4096);
+    let _ = fresh(b, 4096);
     put(b, 1, 1);
-    let mut i = 0;
-    while i < n {
+    for i in 0..n {
         put(b, (17 + i / 32) as usize, 4294967295);
-        right_link(b, i, n);
-        i += 1;
+        put_node(b, 145 + 8 * i, i + 1, 0, next(i, n), n - i);
     }
 }
 
@@ -207,28 +184,15 @@ fn full_chain(rt: &impl Print) -> io::Result<()> {
 fn half_chain(rt: &impl Print) -> io::Result<()> {
     let mut b = [0u32; 32913];
     chain(&mut b, 2048);
-    insert(&mut b, 1, 1, 1, 1);
+    let _ = insert(&mut b, 1, 1, 1, 1);
     show(
         rt,
         "chain of 2048: insert equal, one fewer free",
         insert(&mut b, 2, 0, 2048, 1),
     )?;
-    clear(&mut b, 1);
+    let _ = clear(&mut b, 1);
     show(rt, ", exact room", insert(&mut b, 2, 0, 2048, 1))?;
     rt.print("\n")
-}
-
-// Node i + 1 of a left chain of the keys n down to 1, one minute each, at N = 96.
-fn left_link(b: &mut [u32], i: u32, n: u32)
-    requires { (i < n) × (n ≤ 96) }
-{
-    let at = (20 + 8 * i) as usize;
-    put(b, at, n - i);
-    put(b, at + 1, 1);
-    put(b, at + 2, if i + 1 < n { i + 2 } else { 0 });
-    put(b, at + 4, n - i);
-    put(b, at + 5, 1);
-    put(b, at + 6, n - i);
 }
 
 // Version 0 of N = 96 becomes a left chain of 64 and `more` nodes, by hand, and is listed against empty.
@@ -237,20 +201,25 @@ fn left_chain(rt: &impl Print, more: u32) -> io::Result<()>
 {
     let mut b = [0u32; 788];
     let mut out = [0u32; 4];
-    fresh(&mut b, 96);
+    let _ = fresh(&mut b, 96);
     put(&mut b, 1, 1);
     put(&mut b, 17, 4294967295);
     put(&mut b, 18, 4294967295);
     put(&mut b, 19, more);
-    let mut i = 0;
-    while i < 64 + more {
-        left_link(&mut b, i, 64 + more);
-        i += 1;
+    let n = 64 + more;
+    for i in 0..n {
+        put_node(&mut b, 20 + 8 * i, n - i, next(i, n), 0, n - i);
     }
-    let r = list(&b, 0, 15, 0, &mut out);
-    let number = r.number;
-    let total = r.total;
-    print!(rt; " {number} of {total}")
+    match list(&b, 0, 15, 0, &mut out) {
+        Ok(report) => {
+            let total = report.total;
+            print!(rt; " 0 of {total}")
+        }
+        Err(refusal) => {
+            let number = refusal.number();
+            print!(rt; " {number} of 0")
+        }
+    }
 }
 
 fn deepest(rt: &impl Print) -> io::Result<()> {
@@ -262,10 +231,10 @@ fn deepest(rt: &impl Print) -> io::Result<()> {
 }
 
 // What was asked, the number that the call gave back and the minutes.
-fn minutes(rt: &impl Print, s: &str, m: Minutes) -> io::Result<()> {
-    let number = m.number;
-    let minutes = m.minutes;
-    print!(rt; "{s} {number}:{minutes}")
+fn minutes(rt: &impl Print, s: &str, answer: Result<u64, Refusal>) -> io::Result<()> {
+    show(rt, s, answer)?;
+    let minutes = answer.unwrap_or(0);
+    print!(rt; ":{minutes}")
 }
 
 fn chain_asked(rt: &impl Print, b: &[u32]) -> io::Result<()> {
@@ -288,9 +257,9 @@ fn chain_sums(rt: &impl Print) -> io::Result<()> {
 // Two values that together pass a word. Then the high word of the root's sum is changed: node 1 is the root, and its words begin at 18.
 fn long_sums(rt: &impl Print) -> io::Result<()> {
     let mut b = [0u32; 274];
-    fresh(&mut b, 32);
-    insert(&mut b, 0, 0, 0, 4294967295);
-    insert(&mut b, 1, 0, 4294967295, 4294967295);
+    let _ = fresh(&mut b, 32);
+    let _ = insert(&mut b, 0, 0, 0, 4294967295);
+    let _ = insert(&mut b, 1, 0, 4294967295, 4294967295);
     minutes(rt, "held: twice the largest value", held(&b, 1))?;
     minutes(rt, ", the first", held_between(&b, 1, 0, 0))?;
     minutes(
@@ -304,12 +273,15 @@ fn long_sums(rt: &impl Print) -> io::Result<()> {
     rt.print("\n")
 }
 
+// The number of what is wrong with a line, 0 for nothing, and the place of a byte that is no digit.
 fn said(rt: &impl Print, line: &[u8]) -> io::Result<()> {
-    let a = parse(line);
-    let number = a.number;
+    let said = parse(line);
+    let number = match said {
+        Ok(_) => 0,
+        Err(fault) => fault.number(),
+    };
     print!(rt; " {number}")?;
-    if number == 10 {
-        let place = a.place;
+    if let Err(Fault::Digit(place)) = said {
         print!(rt; " at {place}")?;
     }
     Ok(())

@@ -10,7 +10,8 @@ use borrow.Author.Tests.{eq-eqb, ne_eqb}
 use lib.Dec.{eqb}
 use native.Mathlib.Omega.{arith}
 use Rattle.model.specs.Frame.{read}
-use Rattle.hearing.specs.Lines.{lines_of, rest_of, Keeps, State, Fed, FedSome, HearsSome, Runs}
+use Rattle.hearing.specs.Lines.{lines_of, rest_of, Keeps, State, Fed, FedSome, HearsSome, Runs, state}
+use Rattle.hearing.specs.declared.kept.Progress.{Progress}
 use Rattle.hearing.proofs.Keeping.{first_36, keeps_none}
 use Rattle.hearing.proofs.Hearing.{runs_none, runs_then, runs_says}
 
@@ -54,40 +55,39 @@ going_line {u = u} {len = len} {byte = byte} G K e z one =
 
 -- after i bytes, whatever was held
 pub record Feeding (s : State) (bytes : List ℕ) (t : State) (i : ℕ) : Type 0 where
-  pub block_long : length t.block ≡ length s.block
-  pub inbox_long : length t.inbox ≡ length s.inbox
-  pub short : t.len ≤ 36
   pub going : (held : List ℕ) → Keeps s.line s.len held → Going s (lines_of held bytes) (rest_of held bytes) t (drop i bytes)
 
-pub feeding_none : (s : State) (bytes : List ℕ) → s.len ≤ 36 → Feeding s bytes s 0
-feeding_none s bytes short = record { block_long = refl; inbox_long = refl; short = short; going = λ held k. record { held = held; keeps = k; runs = λ u r. r; left = refl } }
+pub feeding_none : (s : State) (bytes : List ℕ) → Feeding s bytes s 0
+feeding_none s bytes = record { going = λ held k. record { held = held; keeps = k; runs = λ u r. r; left = refl } }
 
 -- what keep does with byte i
 abbrev pub Kept : State → (bytes : List ℕ) (i : ℕ) (line : List ℕ) (len : ℕ) → Type 0
-Kept t bytes i line len = (len ≤ 36) × ((held : List ℕ) → Keeps t.line t.len held → Keeps line len (held ++ get_or bytes i 0 ∷ []))
+Kept t bytes i line len = (held : List ℕ) → Keeps t.line t.len held → Keeps line len (held ++ get_or bytes i 0 ∷ [])
 
 next : (bytes : List ℕ) (i : ℕ) → i < length bytes → drop i bytes ≡ get_or bytes i 0 ∷ drop (i + 1) bytes
 next bytes i lt = let e : suc i ≡ i + 1 = omega arith in drop-cons bytes i 0 lt ∙ ap (λ (j : ℕ). get_or bytes i 0 ∷ drop j bytes) e
 
-pub feeding_byte : {s t : State} {bytes line : List ℕ} {len i : ℕ} → Feeding s bytes t i → i < length bytes → Kept t bytes i line len → get_or bytes i 0 ≢ 10
-    → Feeding s bytes (record { block = t.block; inbox = t.inbox; started = t.started; line = line; len = len }) (i + 1)
-feeding_byte {s = s} {t = t} {bytes = bytes} {i = i} F lt K ne = record {
-  block_long = F.block_long;
-  inbox_long = F.inbox_long;
-  short = K.0;
-  going = λ held k. going_byte (subst (Going s (lines_of held bytes) (rest_of held bytes) t) (next bytes i lt) (F.going held k)) K.1 (ne_eqb _ _ ne);
-}
+pub feeding_byte : {s t : State} {bytes line : List ℕ} {len i : ℕ} {g : Bool} → Feeding s bytes t i → i < length bytes → g ≡ t.started → Kept t bytes i line len → get_or bytes i 0 ≢ 10
+    → Feeding s bytes (record { block = t.block; inbox = t.inbox; started = g; line = line; len = len }) (i + 1)
+feeding_byte {s = s} {t = t} {bytes = bytes} {line = line} {len = len} {i = i} F lt same K ne = subst (λ (g : Bool). Feeding s bytes (record { block = t.block; inbox = t.inbox; started = g; line = line; len = len }) (i + 1)) (sym same) (record {
+  going = λ held k. going_byte (subst (Going s (lines_of held bytes) (rest_of held bytes) t) (next bytes i lt) (F.going held k)) K (ne_eqb _ _ ne);
+})
 
-pub feeding_line : {s t : State} {bytes b x line : List ℕ} {g : Bool} {len i : ℕ} → Feeding s bytes t i → i < length bytes
-    → Kept t bytes i line len → get_or bytes i 0 ≡ 10
-    → length b ≡ length s.block → length x ≡ length s.inbox → Runs t.block t.inbox t.started (take len line ∷ []) b x g
-    → Feeding s bytes (record { block = b; inbox = x; started = g; line = line; len = 0 }) (i + 1)
-feeding_line {s = s} {t = t} {bytes = bytes} {i = i} F lt K e hb hx one = record {
-  block_long = hb;
-  inbox_long = hx;
-  short = omega arith;
-  going = λ held k. going_line (subst (Going s (lines_of held bytes) (rest_of held bytes) t) (next bytes i lt) (F.going held k)) K.1 (eq-eqb _ _ e) refl one;
+-- the kept bytes are heard as a line, and none are kept
+pub record Ended (t : State) (g : Bool) (line : List ℕ) (len : ℕ) (u : State) : Type 0 where
+  pub none_kept : u.len ≡ 0
+  pub same_buffer : u.line ≡ line
+  pub heard : Runs t.block t.inbox g (take len line ∷ []) u.block u.inbox u.started
+
+pub feeding_line : {s t u : State} {bytes line : List ℕ} {len i : ℕ} {g : Bool} → Feeding s bytes t i → i < length bytes → g ≡ t.started
+    → Kept t bytes i line len → get_or bytes i 0 ≡ 10 → Ended t g line len u → Feeding s bytes u (i + 1)
+feeding_line {s = s} {t = t} {u = u} {bytes = bytes} {line = line} {len = len} {i = i} F lt same K e E = record {
+  going = λ held k. going_line (subst (Going s (lines_of held bytes) (rest_of held bytes) t) (next bytes i lt) (F.going held k))
+      (λ held k. rw E.same_buffer (K held k)) (eq-eqb _ _ e) E.none_kept one;
 }
+  where
+    one : RunsTo t (take len u.line ∷ []) u
+    one = rw (E.same_buffer, sym same) E.heard
 
 -- all bytes have come
 pub feeding_all : {s t : State} {bytes : List ℕ} {i : ℕ} → Feeding s bytes t i → length bytes ≤ i → Fed s bytes t
@@ -138,6 +138,6 @@ fed_then {s = s} {t = t} {u = u} (xs, F) (ys, G) = (
 )
 
 -- at the start nothing is held
-pub fed_all : {b x line : List ℕ} {t : State} → length line ≡ 36
-    → FedSome (record { block = b; inbox = x; started = false; line = line; len = 0 }) t → HearsSome b x t.block t.inbox
-fed_all {t = t} room (bytes, F) = (bytes, t.started, F.heard [] (record { room = room; size = refl; bytes = refl }))
+pub fed_all : {b x : List ℕ} {t : State} (p : Progress) → length p.line ≡ 36 → p.len ≡ 0 → p.begun ≡ false → FedSome (state b x p) t → HearsSome b x t.block t.inbox
+fed_all {b = b} {x = x} {t = t} p room none unbegun (bytes, F) =
+    (bytes, t.started, subst (λ (g : Bool). Runs b x g (lines_of [] bytes) t.block t.inbox t.started) unbegun (F.heard [] (record { room = room; size = none; bytes = rw none refl })))

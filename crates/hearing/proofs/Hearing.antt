@@ -8,10 +8,16 @@ use mathlib.Core.List.{List, [], ◌∷◌, ◌++◌}
 use lib.ListN.{length}
 use native.Mathlib.Omega.{arith}
 use Rattle.model.specs.Frame.{Frame, Reading, good, fault, read, parse}
-use Rattle.model.specs.Link.{Parse, Begin, Heard, Receive}
+use Rattle.model.specs.Link.{Begin, Heard, Receive}
 use Rattle.model.specs.Replica.{Nothing, Hearing, still, then}
 use Rattle.model.proofs.link.Lines.{fault_range, good_parse}
 use Rattle.model.proofs.calls.Refusals.{begin_begins}
+use Rattle.std.specs.Prelude.{Ok, Err}
+use Rattle.answers.specs.declared.Fault.{Fault}
+use Rattle.answers.specs.Numbers.{fault_number}
+use Rattle.frame.specs.declared.Frame as frames
+use Rattle.frame.specs.Fields.{fields_of}
+use Rattle.link.specs.Answers.{Says}
 use Rattle.hearing.specs.Lines.{Runs, idle, waits, begins, hears}
 
 -- no line
@@ -37,22 +43,24 @@ pub runs_hears : {b x c y : List ℕ} {g : Bool} (line : List ℕ) (a : Heard) �
 runs_hears line a e r = rw e (hears (then a refl r still))
 
 -- before that, a malformed line
-pub runs_waits : {b x : List ℕ} {g : Bool} {n : ℕ} (f : Frame) (p : ℕ) (line : List ℕ) → g ≡ false → Parse (read line) n f p → n ≢ 0
-    → Runs b x g (line ∷ []) b x false
-runs_waits {n = n} f p line e P ne = rw e (waits (said (parse line) refl) idle)
+pub runs_waits : {b x : List ℕ} {g : Bool} (line : List ℕ) (f : Fault) → g ≡ false → Says (read line) (Err f) → Runs b x g (line ∷ []) b x false
+runs_waits line f e P = rw e (waits (said (parse line) refl) idle)
   where
+    some_number : fault_number f ≢ 0
+    some_number = grind arith
+
     said : (o : Option Frame) → parse line ≡ o → parse line ≡ none
     said none q = q
-    said (some h) q = absurd (ne (subst (λ (r : Reading). Parse r n f p) ((good_parse line h).0 q) P).0)
+    said (some h) q = absurd (some_number (subst (λ (r : Reading). Says r (Err f)) ((good_parse line h).0 q) P).0)
 
 -- and the first that is well formed
-pub runs_begins : {b x z c y : List ℕ} {g : Bool} {n m : ℕ} (f : Frame) (p : ℕ) (line : List ℕ) (a : Heard) → g ≡ false
-    → Parse (read line) n f p → n ≡ 0 → length x ≡ 130 → Begin x z f.batch m
+pub runs_begins : {b x z c y : List ℕ} {g : Bool} {m : ℕ} (f : frames.Frame) (line : List ℕ) (a : Heard) → g ≡ false
+    → Says (read line) (Ok f) → length x ≡ 130 → Begin x z f.batch m
     → Receive (record { block = b; inbox = z; block' = c; inbox' = y; answer = a }) 0 line → Runs b x g (line ∷ []) c y true
-runs_begins {b = b} {x = x} {z = z} {c = c} {y = y} {n = n} {m = m} f p line a e P zero_n long B r = rw e (begins f (said (read line) refl P) (then a refl (subst (λ (w : List ℕ). Receive (record { block = b; inbox = w; block' = c; inbox' = y; answer = a }) 0 line) (begin_begins f.batch long B).1 r) still))
+runs_begins {b = b} {x = x} {z = z} {c = c} {y = y} {m = m} f line a e P long B r = rw e (begins (fields_of f) (said (read line) refl P) (then a refl (subst (λ (w : List ℕ). Receive (record { block = b; inbox = w; block' = c; inbox' = y; answer = a }) 0 line) (begin_begins f.batch long B).1 r) still))
   where
-    said : (o : Reading) → read line ≡ o → Parse o n f p → parse line ≡ some f
-    said (fault k q) d P = absurd (omega (arith, (fault_range line k q d).0, P.0, zero_n))
+    said : (o : Reading) → read line ≡ o → Says o (Ok f) → parse line ≡ some (fields_of f)
+    said (fault k q) d P = absurd (omega (arith, (fault_range line k q d).0, P.0))
     said (good h) d P = (good_parse line h).1 d ∙ ap some (sym P.1)
 
 -- what is heard of a line is what it says

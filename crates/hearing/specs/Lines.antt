@@ -4,7 +4,7 @@ use Rattle.std.proofs.Math.Option.{none, some}
 use Rattle.model.specs.Frame.{Frame, parse}
 use Rattle.model.specs.Inbox.{begun}
 use Rattle.model.specs.Replica.{Nothing, Hearing}
-use Rattle.hearing.specs.declared.Progress.{Progress}
+use Rattle.hearing.specs.declared.kept.Progress.{Progress}
 
 -- the lines that end in `bytes`, where `held` came before: a line ends at its newline (10)
 unfoldable pub lines_of : (held bytes : List ℕ) → List (List ℕ)
@@ -41,8 +41,8 @@ pub record State : Type 0 where
   pub line : List ℕ
   pub len : ℕ
 
-abbrev pub state : (b x line : List ℕ) → Progress → State
-state b x line p = record { block = b; inbox = x; started = p.begun; line = line; len = p.len }
+abbrev pub state : (b x : List ℕ) → Progress → State
+state b x p = record { block = b; inbox = x; started = p.begun; line = p.line; len = p.len }
 
 -- bytes are fed: whatever was held, the lines that end in them are heard one after the other, and the rest is kept
 pub record Fed (s : State) (bytes : List ℕ) (t : State) : Type 0 where

@@ -1,41 +1,42 @@
 // What the standby's programs begin with: the lines on an input, for them standard input, are heard into version 0 of a fresh block.
 #![tactic(auto)]
 
-ghost use Rattle.std.specs.Prelude.{◌≡◌, ℕ, ◌≤◌, List, [], ◌∷◌, ◌++◌, length, take};
+ghost use Rattle.std.specs.Prelude.{◌≡◌, ℕ, ◌≤◌, false, List, [], ◌∷◌, ◌++◌, length, take};
 ghost use Rattle.model.specs.Inbox.{begun};
 ghost use Rattle.model.specs.Calls.{fresh_block};
 ghost use Rattle.hearing.specs.Lines.{Keeps, Runs, state, Fed, FedSome, HearsSome};
 
+mod kept;
+
 use inbox::begin;
+use kept::Progress;
 use link::parse;
 use std::io::Read;
 
 const NEWLINE: u8 = 10;
 
-// Between two bytes: how many bytes of the line are kept, and whether a batch has begun.
-#[derive(Drop)]
-pub struct Progress {
-    pub len: usize,
-    pub begun: bool,
-}
-
-// The progress after one read, and whether there may be more to read.
-#[derive(Drop)]
-pub struct Turn {
-    pub progress: Progress,
-    pub more: bool,
-}
-
-// A line as long as the buffer stays that long: its further bytes are dropped, and no line of 36 bytes is well formed.
-fn keep(line: &mut [u8; 36], len: usize, byte: u8) -> usize
-    requires { len ≤ 36 }
-    ensures { (result ≤ 36) × ((held : List ℕ) → Keeps line.old len held → Keeps line.new result (held ++ byte ∷ [])) }
-{
-    if len < 36 {
-        line[len] = byte;
-        return len + 1;
+impl Progress {
+    // A line as long as the buffer stays that long: its further bytes are dropped, and no line of 36 bytes is well formed.
+    fn keep(&mut self, byte: u8)
+        ensures begun { self.new.begun ≡ self.old.begun }
+        ensures kept { (held : List ℕ) → Keeps self.old.line self.old.len held → Keeps self.new.line self.new.len (held ++ byte ∷ []) }
+    {
+        if self.len < 36 {
+            self.line[self.len] = byte;
+            self.len += 1;
+        }
     }
-    len
+
+    // The kept bytes are the line, or it is longer than a line may be. The next line begins with none.
+    fn end_line(&mut self, b: &mut [u32], x: &mut [u32])
+        requires { length x.old ≡ 130 }
+        ensures none_kept { self.new.len ≡ 0 }
+        ensures same_buffer { self.new.line ≡ self.old.line }
+        ensures heard { Runs b.old x.old self.old.begun (take self.old.len self.old.line ∷ []) b.new x.new self.new.begun }
+    {
+        self.begun = hear(b, x, self.begun, &self.line[..self.len]);
+        self.len = 0;
+    }
 }
 
 // The first well-formed line begins with its batch; before it all lines are passed over.
@@ -44,73 +45,43 @@ fn hear(b: &mut [u32], x: &mut [u32], begun: bool, line: &[u8]) -> bool
     ensures { Runs b.old x.old begun (line.now ∷ []) b.new x.new result }
 {
     if begun {
-        link::receive(b, x, 0, line);
+        let _ = link::receive(b, x, 0, line);
         return true;
     }
-    let said = parse(line);
-    if said.number != 0 {
+    let Ok(first) = parse(line) else {
         return false;
-    }
-    begin(x, said.fields.batch);
-    link::receive(b, x, 0, line);
+    };
+    let _ = begin(x, first.batch);
+    let _ = link::receive(b, x, 0, line);
     true
 }
 
-// The kept bytes are the line, or it is longer than a line may be.
-fn hear_kept(b: &mut [u32], x: &mut [u32], begun: bool, line: &[u8; 36], len: usize) -> bool
-    requires { (length x.old ≡ 130) × (len ≤ 36) }
-    ensures { Runs b.old x.old begun (take len line.now ∷ []) b.new x.new result }
-{
-    let whole = &line[..];
-    hear(b, x, begun, &whole[0..len])
-}
-
 // Bytes are cut into lines at each newline; what follows the last one is kept for the next bytes.
-fn feed(b: &mut [u32], x: &mut [u32], line: &mut [u8; 36], from: Progress, bytes: &[u8]) -> Progress
-    requires { (length x.old ≡ 130) × (from.len ≤ 36) }
-    ensures len_bound { result.len ≤ 36 }
-    ensures fed { Fed (state b.old x.old line.old from) bytes.now (state b.new x.new line.new result) }
+fn feed(b: &mut [u32], x: &mut [u32], progress: &mut Progress, bytes: &[u8])
+    requires { length x.old ≡ 130 }
+    ensures { Fed (state b.old x.old progress.old) bytes.now (state b.new x.new progress.new) }
 {
-    let mut len = from.len;
-    let mut begun = from.begun;
-    let mut i: usize = 0;
-    while i < bytes.len() {
-        let byte = bytes[i];
-        i += 1;
-        len = keep(line, len, byte);
+    for &byte in bytes {
+        progress.keep(byte);
         if byte == NEWLINE {
-            begun = hear_kept(b, x, begun, line, len);
-            len = 0;
+            progress.end_line(b, x);
         }
     }
-    Progress {
-        len: len,
-        begun: begun,
-    }
 }
 
-// One read, and its bytes fed on. A read that fails ends the input, as its end does: what was heard before it stands.
-fn read_once<R: Read>(
-    input: &mut R,
-    b: &mut [u32],
-    x: &mut [u32],
-    line: &mut [u8; 36],
-    from: Progress,
-) -> Turn
-    requires { (length x.old ≡ 130) × (from.len ≤ 36) }
-    ensures len_bound { result.progress.len ≤ 36 }
-    ensures fed_some { FedSome (state b.old x.old line.old from) (state b.new x.new line.new result.progress) }
+// One read, and its bytes fed on: whether there may be more to read. A read that fails ends the input, as its end does: what was heard before it stands.
+#[tactic(auto, using(crate::proofs::Feeding::fed_none))]
+fn read_once<R: Read>(input: &mut R, b: &mut [u32], x: &mut [u32], progress: &mut Progress) -> bool
+    requires { length x.old ≡ 130 }
+    ensures { FedSome (state b.old x.old progress.old) (state b.new x.new progress.new) }
 {
     let mut buffer = [0u8; 65536];
     match input.read(&mut buffer) {
-        Ok(0) | Err(_) => Turn {
-            progress: from,
-            more: false,
-        },
-        Ok(n) => Turn {
-            progress: feed(b, x, line, from, &buffer[..n]),
-            more: true,
-        },
+        Ok(0) | Err(_) => false,
+        Ok(n) => {
+            feed(b, x, progress, &buffer[..n]);
+            true
+        }
     }
 }
 
@@ -119,17 +90,11 @@ fn read_all<R: Read>(input: &mut R, b: &mut [u32], x: &mut [u32])
     requires { length x.old ≡ 130 }
     ensures { HearsSome b.old x.old b.new x.new }
 {
-    let mut line = [0u8; 36];
-    let mut progress = Progress {
-        len: 0,
-        begun: false,
-    };
+    let mut progress = Progress::new();
     for _ in 0..u64::MAX {
-        let turn = read_once(input, b, x, &mut line, progress);
-        if !turn.more {
+        if !read_once(input, b, x, &mut progress) {
             return;
         }
-        progress = turn.progress;
     }
 }
 
@@ -138,7 +103,7 @@ pub fn hear_input<R: Read>(input: &mut R, b: &mut [u32], x: &mut [u32])
     requires { (length b.old ≡ 16208) × (length x.old ≡ 130) }
     ensures { HearsSome (fresh_block 2016) (begun 0) b.new x.new }
 {
-    table::fresh(b, 2016);
-    begin(x, 0);
+    let _ = table::fresh(b, 2016);
+    let _ = begin(x, 0);
     read_all(input, b, x);
 }

@@ -18,7 +18,7 @@ use std::io::{Read, Write};
 
 const NEWLINE: u8 = 10;
 
-// Bytes from `at` on: an entry, key then value, 16 digits and a newline.
+// Bytes from `at` on: an entry, key then value, 16 digits and a newline. The place goes beside the slice, as the contract says what stands before.
 fn put_entry(out: &mut [u8], at: usize, key: u32, value: u32)
     requires { at + 17 ≤ length out.old }
     ensures { take (at + 17) out.new ≡ take at out.old ++ entry_line (key, value) }
@@ -48,7 +48,7 @@ fn write_text(b: &[u32], x: &[u32], out: &mut [u8]) -> usize
     ensures { (result ≤ 34281) × (take result out.new ≡ text_of b.now x.now) }
 {
     let at = put_entries(b, root(b, 0), out, 0);
-    put_hex(out, at, 8, question(x).missing);
+    put_hex(out, at, 8, question(x).unwrap());
     out[at + 8] = NEWLINE;
     at + 9
 }

@@ -13,31 +13,24 @@ mod trees;
 ghost use Rattle.std.specs.Prelude.{◌≤◌, length};
 
 use calls::perform;
-use lines::{DONE, UNFIT, line_of, take};
+use lines::{Fields, Unfit};
 use std::io;
 use std::io::Read;
 
 // Does the calls of a text, up to the first byte that fits no line.
 fn replay(rt: &impl Print, b: &mut [u32], text: &[u8]) -> io::Result<()> {
-    let mut fields = [0u32; 6];
-    let mut at = 0usize;
-    let mut i = 0usize;
-    while i < text.len() {
-        at = take(&mut fields, at, text[i]);
-        i += 1;
-        if at == UNFIT {
-            return Ok(());
-        }
-        if at == DONE {
-            perform(rt, b, line_of(&fields))?;
-            fields = [0u32; 6];
-            at = 0;
+    let mut fields = Fields::new();
+    for byte in text {
+        match fields.take(*byte) {
+            Ok(Some(call)) => perform(rt, b, call)?,
+            Ok(None) => {}
+            Err(Unfit) => return Ok(()),
         }
     }
     Ok(())
 }
 
-// Fills the buffer from its start, up to the end of the input or a read that fails: how many bytes there are.
+// Fills the buffer from its start, up to the end of the input or a read that fails: how many bytes there are. A `while`, since the reads say how far it has come.
 fn read_full<R: Read>(input: &mut R, buffer: &mut [u8]) -> usize
     ensures { result ≤ length buffer.new }
 {
@@ -54,7 +47,7 @@ fn read_full<R: Read>(input: &mut R, buffer: &mut [u8]) -> usize
 // A sample longer than the buffer would be cut, and the comparison would show it.
 fn main(rt: HostRuntime) -> io::Result<()> {
     let mut b = [0u32; 16208];
-    table::fresh(&mut b, 2016);
+    let _ = table::fresh(&mut b, 2016);
     let mut input = [0u8; 65536];
     let n = read_full(&mut rt.stdin(), &mut input);
     replay(&rt, &mut b, &input[..n])

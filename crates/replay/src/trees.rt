@@ -4,23 +4,19 @@ ghost use Rattle.std.specs.Prelude.{◌<◌};
 use std::io;
 
 // A value, or a dash for none.
-pub fn or_dash(rt: &impl Print, found: u32, value: u32) -> io::Result<()> {
-    if found == 0 {
-        rt.print("-")
-    } else {
-        rt.print(value)
+pub fn or_dash(rt: &impl Print, value: Option<u32>) -> io::Result<()> {
+    match value {
+        Some(value) => rt.print(value),
+        None => rt.print("-"),
     }
 }
 
 // The word at a place; 0 past the end.
-pub fn word(w: &[u32], at: usize) -> u32 {
-    if at < w.len() {
-        return w[at];
-    }
-    0
+fn word(words: &[u32], at: usize) -> u32 {
+    words.get(at).copied().unwrap_or(0)
 }
 
-// Word j of node n: in a block of N = 2,016 the words of node 1 start at 80.
+// Word j of node n: in a block of N = 2,016 the words of node 1 start at 80. Read here, since the reading of `block` asks for a proof that the block has its shape.
 fn node_word(b: &[u32], n: u32, j: usize) -> u32
     requires { j < 8 }
 {
@@ -37,10 +33,7 @@ fn node(rt: &impl Print, b: &[u32], n: u32) -> io::Result<()> {
 
 // The tree below n, top first and left before right: with keys in order this fixes the shape.
 fn below(rt: &impl Print, b: &[u32], n: u32, levels: u32) -> io::Result<()> {
-    if n == 0 {
-        return Ok(());
-    }
-    if levels == 0 {
+    if n == 0 || levels == 0 {
         return Ok(());
     }
     node(rt, b, n)?;

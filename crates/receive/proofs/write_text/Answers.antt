@@ -21,6 +21,6 @@ returns c =
     let e = c.put_entries-at in
     let fits : e.result + 9 ≤ 34281 = omega (arith, e.ensures.0, (root_fits c.root.result s.0 s.1 c.root.ensures).1) in (
       fits,
-      text_put c.args.b.now c.args.x.now c.args.out.now e.new.out c.put_hex.new.out c.root.result e.result c.question.result.missing
-          c.root.ensures (missing_is s.2 c.question.ensures) (record { ends = e.ensures.0; text = e.ensures.1 }) (omega (arith, fits, s.3)) (omega arith) c.put_hex.ensures,
+      text_put c.args.b.now c.args.x.now c.args.out.now e.new.out c.put_hex.new.out c.root.result e.result c.unwrap.result
+          c.root.ensures (missing_is s.2 (rw c.unwrap.ensures at c.question.ensures)) (record { ends = e.ensures.0; text = e.ensures.1 }) (omega (arith, fits, s.3)) (omega arith) c.put_hex.ensures,
     )

@@ -1,6 +1,0 @@
--- The key grows to n.
-use Rattle.std.proofs.Common.{◌-◌}
-use Rattle.cases.proofs.fill.Given as goal
-
-abbrev pub decreases-loop-i : goal.decreases-loop-i
-decreases-loop-i l = l.n - l.i
