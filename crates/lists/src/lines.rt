@@ -13,7 +13,12 @@ use frame::Frame;
 use table::checks::admit;
 
 // The lines of `total` frames from index start on, while 35 bytes remain: how many bytes are written.
-pub fn write_lines<F: Fn(u32) -> Frame>(frame: F, total: u32, start: u32, out: &mut [u8]) -> u32
+pub(crate) fn write_lines<F: Fn(u32) -> Frame>(
+    frame: F,
+    total: u32,
+    start: u32,
+    out: &mut [u8],
+) -> u32
     requires few { total ≤ 4096 }
     requires gives { (i : ℕ) → i < total → F.pre frame i }
     ensures { (fs : List model.Frame) → Gives (F.post frame) total fs → Wrote (map line fs) start out.old result out.new }
