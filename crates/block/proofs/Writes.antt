@@ -104,6 +104,11 @@ took {b} (suc n) xs F z q =
     rw (q, e) (bit_marked b F.shaped n y true F.high here others xs, words_marked b F.shaped n y true F.high here others xs 5 (suc n) (omega arith) ∙ z)
 
 -- an occupied one is free again
+pub free-asks : (b : List ℕ) (n : ℕ) → Shaped b → Occupied (heap b) n
+    → Shaped b × (1 ≤ n) × (n ≤ room b) × (bit (word b (17 + (n - 1) / 32)) ((n - 1) % 32) ≡ 1)
+free-asks b zero B o = absurd (true≢false (sym o))
+free-asks b (suc n) B o = let q = bit-one b n o in let e : suc n - 1 ≡ n = omega arith in (B, omega arith, q.0, rw e q.1)
+
 pub occupied_within : (b : List ℕ) (n : ℕ) → Occupied (heap b) n → (1 ≤ n) × (n ≤ room b)
 occupied_within b zero o = absurd (true≢false (sym o))
 occupied_within b (suc n) o = (omega arith, (bit-one b n o).0)

@@ -7,7 +7,7 @@ use mathlib.Core.List.{List, [], ◌∷◌}
 use native.Mathlib.Omega.{arith}
 use Rattle.model.specs.Tree.{Tree}
 use Rattle.model.specs.Supply.{Make, make}
-use Rattle.model.specs.Rules.{insert_by}
+use Rattle.model.specs.Rules.{balanced, insert_by}
 use Rattle.model.specs.Heap.{load, tree}
 use Rattle.model.specs.Block.{heap}
 use Rattle.model.specs.Moves.{held, Holding}
@@ -32,6 +32,14 @@ remade_onward false k v l r = make_onward k v l r
 remade_keeps : (f : Bool) → Keeps (remade f)
 remade_keeps true = balanced_keeps
 remade_keeps false = make_keeps
+
+-- which make remakes a node
+module _ {b e ps : List ℕ} {q : Option ℕ} (f : Bool) (k v : ℕ) (l r : Tree) where
+  pub by_balanced : f ≡ true → Outcome b e ps q (balanced k v l r) → Outcome b e ps q (remade f k v l r)
+  by_balanced p O = rw p O
+
+  pub by_make : f ≡ false → Outcome b e ps q (make k v l r) → Outcome b e ps q (remade f k v l r)
+  by_make p O = rw p O
 
 -- an empty tree: what a make of two empty ones asks, and what it made
 pub insert_none_asks : {b : List ℕ} (n : ℕ) → Holding b (n ∷ []) → Asks b 0 0

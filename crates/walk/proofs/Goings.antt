@@ -317,6 +317,23 @@ module _ {h : Heap} {once : Bool} {w : Wanted} {start : ℕ} {t : Told} {a : Pen
     pub first_found : once ≡ true → wants w (row y) ≡ true → told once w start (record { rows = []; deep = false }) (n + 1) out_on ≡ t
     first_found f e = sym (told_first w start (row y) later n out once f e) ∙ yielded
 
+-- the turns that are left after a row of which k are wanted: none, where one is enough
+abbrev pub turns_left : Bool → ℕ → ℕ → ℕ
+turns_left false k f = f
+turns_left true zero f = f
+turns_left true (suc k) f = 0
+
+pub left_all : (o : Bool) (k f : ℕ) → o ≡ false → f ≡ turns_left o k f
+left_all o k f e = sym (ap (λ (x : Bool). turns_left x k f) e)
+
+pub left_more : (o : Bool) (k f : ℕ) → k ≡ 0 → f ≡ turns_left o k f
+left_more false k f e = refl
+left_more true k f e = sym (ap (λ (x : ℕ). turns_left true x f) e)
+
+pub left_none : (o : Bool) (k f : ℕ) → o ≡ true → (k ≡ 0 → ⊥) → 0 ≡ turns_left o k f
+left_none o zero f e d = absurd (d refl)
+left_none o (suc k) f e d = sym (ap (λ (x : Bool). turns_left x (suc k) f) e)
+
 -- so that the number of turns fits
 pub small : (b : List ℕ) → SoundBlock b → (x : ℕ) → Named (heap b) x → size_at (heap b) x ≤ 4096
 small b S x o = omega (arith, S.shaped.most, tree-room (heap b) S.sound x o, tree-size (heap b) S.sound.kept.linked x o)
