@@ -18,7 +18,7 @@ trees_ok-requires g c =
 
 pub returns-then-not-trees_ok : goal.returns-then-not-trees_ok
 returns-then-not-trees_ok g c =
-    λ S. c.if-not-trees_ok.ensures.0 (sound_trees c.args.b.now c.args.a.now c.args.n c.requires.0 S c.args.notes.now.tally c.requires.2.left)
+    λ S. c.if-not-trees_ok.ensures.told.0 (sound_trees c.args.b.now c.args.a.now c.args.n c.requires.0 S c.args.notes.now.tally c.requires.2.left)
 
 pub returns : goal.returns
 returns g c =
@@ -27,4 +27,4 @@ returns g c =
     let t = c.trees_ok.new.self.tally in
     let z = c.zeros_half in
     let Z = zeros_part t 1 n _ (omega arith) (omega arith) z.result z.ensures in
-    last_tells c.args.b.now c.args.a.now n c.requires.0 G.marks c.args.notes.now.tally G.left t c.if-not-trees_ok.ensures.0.area_ok (c.if-not-trees_ok.ensures.1 refl) z.result Z
+    last_tells c.args.b.now c.args.a.now n c.requires.0 G.marks c.args.notes.now.tally G.left t c.if-not-trees_ok.ensures.told.0.area_ok (c.if-not-trees_ok.ensures.told.1 refl) z.result Z
