@@ -12,7 +12,7 @@ pub struct Progress {
 }
 
 impl Progress {
-    pub fn new() -> Progress
+    pub(crate) fn new() -> Progress
         ensures { (result.len ≡ 0) × (result.begun ≡ false) }
     {
         Progress {

@@ -9,7 +9,7 @@ ghost use Rattle.hearing.specs.Lines.{Keeps, Runs, state, Fed, FedSome, HearsSom
 mod kept;
 
 use inbox::begin;
-use kept::Progress;
+pub use kept::Progress;
 use link::parse;
 use std::io::Read;
 

@@ -6,6 +6,7 @@ mod lines;
 mod reads;
 mod slice;
 
+pub use answers::{Refusal, Report};
 pub use edits::{fresh, insert, remove};
 pub use lines::receive;
 pub use reads::{list, lookup};
