@@ -10,7 +10,7 @@ use native.Mathlib.Omega.{arith}
 use Rattle.model.specs.Frame.{Frame, Reading, good, fault, read, parse}
 use Rattle.model.specs.Link.{Begin, Heard, Receive}
 use Rattle.model.specs.Replica.{Nothing, Hearing, still, then}
-use Rattle.model.proofs.link.Lines.{fault_range, good_parse}
+use Rattle.model.proofs.link.Lines.{read_open, fault_range, good_parse}
 use Rattle.model.proofs.calls.Refusals.{begin_begins}
 use Rattle.std.specs.Prelude.{Ok, Err}
 use Rattle.answers.specs.declared.Fault.{Fault}
@@ -52,6 +52,14 @@ runs_waits line f e P = rw e (waits (said (parse line) refl) idle)
     said : (o : Option Frame) → parse line ≡ o → parse line ≡ none
     said none q = q
     said (some h) q = absurd (some_number (subst (λ (r : Reading). Says r (Err f)) ((good_parse line h).0 q) P).0)
+
+-- and a line of another length, of which that is known at once
+pub runs_passes : {b x : List ℕ} {g : Bool} (line : List ℕ) → g ≡ false → length line ≢ 35 → Runs b x g (line ∷ []) b x false
+unfolding parse
+runs_passes line e n = rw e (waits unread idle)
+  where
+    unread : parse line ≡ none
+    unread = rw (read_open line (λ C. n C.long), parse) refl
 
 -- and the first that is well formed
 pub runs_begins : {b x z c y : List ℕ} {g : Bool} {m : ℕ} (f : frames.Frame) (line : List ℕ) (a : Heard) → g ≡ false

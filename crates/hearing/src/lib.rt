@@ -15,18 +15,20 @@ use std::io::Read;
 
 const NEWLINE: u8 = 10;
 
-impl Progress {
-    // A line as long as the buffer stays that long: its further bytes are dropped, and no line of 36 bytes is well formed.
-    fn keep(&mut self, byte: u8)
-        ensures begun { self.new.begun ≡ self.old.begun }
-        ensures kept { (held : List ℕ) → Keeps self.old.line self.old.len held → Keeps self.new.line self.new.len (held ++ byte ∷ []) }
-    {
-        if self.len < 36 {
-            self.line[self.len] = byte;
-            self.len += 1;
-        }
+// A line as long as the buffer stays that long: its further bytes are dropped, and no line of 36 bytes is well formed. How many bytes are kept after the byte.
+fn keep(line: &mut [u8; 36], len: usize, byte: u8) -> usize
+    requires { len ≤ 36 }
+    ensures short { result ≤ 36 }
+    ensures kept { (held : List ℕ) → Keeps line.old len held → Keeps line.new result (held ++ byte ∷ []) }
+{
+    if 36 <= len {
+        return len;
     }
+    line[len] = byte;
+    len + 1
+}
 
+impl Progress {
     // The kept bytes are the line, or it is longer than a line may be. The next line begins with none.
     fn end_line(&mut self, b: &mut [u32], x: &mut [u32])
         requires { length x.old ≡ 130 }
@@ -48,6 +50,10 @@ fn hear(b: &mut [u32], x: &mut [u32], begun: bool, line: &[u8]) -> bool
         let _ = link::receive(b, x, 0, line);
         return true;
     }
+    // No line of another length is well formed, and such lines are passed over without a call.
+    if line.len() != 35 {
+        return false;
+    }
     let Ok(first) = parse(line) else {
         return false;
     };
@@ -61,12 +67,17 @@ fn feed(b: &mut [u32], x: &mut [u32], progress: &mut Progress, bytes: &[u8])
     requires { length x.old ≡ 130 }
     ensures { Fed (state b.old x.old progress.old) bytes.now (state b.new x.new progress.new) }
 {
+    // The length is a local of the loop, which a register holds; in the struct, beside the bytes that are stored, it would be loaded and stored again at each of them.
+    let mut len = progress.len;
     for &byte in bytes {
-        progress.keep(byte);
+        len = keep(&mut progress.line, len, byte);
         if byte == NEWLINE {
+            progress.len = len;
             progress.end_line(b, x);
+            len = 0;
         }
     }
+    progress.len = len;
 }
 
 // One read, and its bytes fed on: whether there may be more to read. A read that fails ends the input, as its end does: what was heard before it stands.
