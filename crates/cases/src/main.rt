@@ -230,11 +230,13 @@ fn deepest(rt: &impl Print) -> io::Result<()> {
     rt.print("\n")
 }
 
-// What was asked, the number that the call gave back and the minutes.
+// What was asked, the number that the call gave back and the minutes, in one print.
 fn minutes(rt: &impl Print, s: &str, answer: Result<u64, Refusal>) -> io::Result<()> {
-    show(rt, s, answer)?;
-    let minutes = answer.unwrap_or(0);
-    print!(rt; ":{minutes}")
+    let (number, minutes) = match answer {
+        Ok(minutes) => (0, minutes),
+        Err(refusal) => (refusal.number(), 0),
+    };
+    print!(rt; "{s} {number}:{minutes}")
 }
 
 fn chain_asked(rt: &impl Print, b: &[u32]) -> io::Result<()> {
