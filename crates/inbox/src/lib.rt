@@ -112,7 +112,7 @@ pub fn begin(x: &mut [u32], batch: u32) -> Result<(), Refusal>
     if !shape(x) {
         return Err(Refusal::Shape);
     }
-    x.fill(0);
+    x[1..].fill(0);
     x[0] = batch;
     Ok(())
 }

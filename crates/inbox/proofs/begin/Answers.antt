@@ -1,6 +1,6 @@
--- Where the length is right all words are zeros when the batch is written to the first; where it is not, nothing is written.
+-- Where the length is right the fill makes every word but the first 0, and the batch is written to the first; where it is not, nothing is written.
 use Rattle.inbox.proofs.Answered.{begun-done}
 use Rattle.inbox.proofs.begin.Goals as goal
 
 pub returns : goal.returns
-returns c = begun-done _ c.if-not-shape.ensures (c.fill.ensures.after (λ y e. e))
+returns c = begun-done c.args.x.now c.fill.new.self c.args.batch c.if-not-shape.ensures (c.fill.ensures.after (λ y e. e))
